@@ -21,7 +21,8 @@ import tempfile
 HERE = os.path.dirname(os.path.abspath(__file__))
 PROGRAM = os.path.join(HERE, "..", "crates", "cyclone", "out", "cyclone")
 STACK = 64 * 1024 * 1024
-# The operators that precede each form of an expression in the generated texts.
+# The operators that stand before the nested expression in each variant of the generated texts:
+# none, two operators that branch, or operators of all precedence levels.
 OPERATORS = {"": "", ", behind two operators that branch": "1||1&&", ", behind operators of all levels": "1||1&&1|1^1&1==1<1<<1+1*"}
 DEEPEST = 199
 # The beginning of each generated text: structs, functions, and the declarations of the body of

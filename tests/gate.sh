@@ -15,8 +15,9 @@ trap 'rm -f "$log" "$costs" "$faults"' EXIT
 passed=0
 failed=0
 
-# Runs a command, shows its output, records its cost, and adds up its last line `N passed, M failed`. A command counts as
-# one failure if it fails without a count of failures, reports no count or an empty one, or leaves out a part.
+# Runs a command, shows its output, records its cost, and adds the counts in its last line `N passed, M failed` to the
+# totals. A command counts as one failure if it fails without a count of failures, reports no count or an empty one, or
+# reports that it left out some tests.
 add() {
   local name=$1 status count good bad
   shift

@@ -12,8 +12,8 @@ HERE = os.path.dirname(os.path.realpath(__file__))
 MISSING = "there is no program cyclone yet: `make install-unproved` builds one in some minutes, `make build` the proved one"
 # The time limit, in seconds, for the program to report its abilities.
 SECONDS = 60
-# The command-line options that were added over time, each with the commands that accept the option if the
-# program has it.
+# Command-line options that some versions of the program lack, each with the commands that accept the
+# option if the program has it.
 OPTIONS = {"json": ("check", "compile"), "places": ("compile", "run"), "report": ("run",), "peaks": ("run",), "with": ("check", "compile"),
     "at-most": ("disasm",)}
 # The pattern of the program's last line, which reports how the command ended; its first words name

@@ -25,8 +25,8 @@ KEYWORDS = set(
 BASES = ("int", "char", "struct", "region_t", "uregion_key_t")
 MARKS = ("*", "@", "?")
 OPERATORS = set("|| && | ^ & == != < <= > >= << >> + - * / %".split())
-# A region that no type can name: the region of a block without a label, or an unknown region. Regions chosen by a caller are
-# represented by numbers.
+# A region that no type can name, such as the region of a block without a label or an unknown region; and the heap region.
+# Regions chosen by a caller are represented by numbers.
 UNKNOWN, HEAP = "`0", "`H"
 # The maximum nesting of brackets and statements that this reader accepts; the language allows 200.
 DEEPEST = 210
@@ -48,7 +48,7 @@ class Declared:
         self.kind, self.name, self.type, self.owner, self.about = kind, name, type_text, owner, about
         self.start, self.end = (token.start, token.end) if token else (-1, -1)
         # The range of the whole declaration in the text, from its first character to its last, and
-        # the declaration's parts.
+        # the list of the declarations inside it.
         self.whole, self.parts = (self.start, self.end), []
         # The result type of a call, and the fields of a struct. For a variable, a flag tells if the variable has an initial value. The
         # last field is the region of the variable's block, or None if this region has no name.
@@ -619,7 +619,7 @@ class Inside:
         try:
             found = self.expression() if has_value else found
         finally:
-            # A local's name is visible only after its declaration.
+            # The name of a local variable is visible only after its declaration.
             it = self.variable("local", name, type_text)
             it.has_value, it.full = has_value, names.whole_type(tokens, HEAP if found == "NULL" else region_of(found))
         names.expect(";")

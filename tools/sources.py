@@ -15,7 +15,7 @@ import subprocess
 import sys
 
 ROOT = os.path.dirname(os.path.dirname(os.path.abspath(__file__)))
-# The parts of a crate's folder that the prover reads.
+# The files and folders of a crate that the prover reads.
 PARTS = ("src", "specs", "proofs", "c")
 
 

@@ -32,14 +32,14 @@ NAME = "program.c"
 SPLICE = re.compile(r"\\[ \t\f\v\0]*\n")
 GAP = r"(?:[^\S\n]|\0|/\*.*?\*/)*"
 INCLUDE = re.compile(rf"(?:#|%:|\?\?=){GAP}(?:include_next|include|import)\b{GAP}(?:<(?P<one>[^>\n]*)>|\"(?P<other>[^\"\n]*)\")?", re.S)
-# Further ways in which a text can ask cpp about the existence of a file.
+# Names, besides `#include`, by which a C text can make cpp tell whether a file exists.
 PROBE = re.compile(r"__has_include\w*|_Pragma\b|\bdependency\b|\bpch_preprocess\b")
 # The pattern of a compiler message about the translation, with the file name that either tool gives
 # the translation.
 COMPILED = re.compile(r"^(?:source\.cyc|/proc/self/fd/\d+):(?=\d+:\d+: )")
 IN_C = re.compile(r"(?P<file>[^\n]*?):(?P<line>\d+): (?P<text>.*)")
 WORD = re.compile(r"\d[\w.]*|\w+|\S", re.A)
-# The maximum number of bytes that are printed.
+# The maximum number of bytes of a tool's output that are printed.
 LONGEST = 4_000_000
 
 

@@ -188,7 +188,7 @@ def of_all(numbers):
         name = numbers.choice(names)
         s, t, d = (numbers.choice([0, *registers]) for _ in range(3))
         if name == "div":
-            # makes the divisor neither 0 nor -1
+            # instructions that make the divisor neither 0 nor -1
             body.add(word_of("ori", t, 9, i=1), word_of("andi", 9, 9, i=0x7FFF), word_of("div", s, 9))
         elif name in ("lw", "sw"):
             body.add(word_of(name, RESULTS, t, i=0x4000 + 4 * numbers.randrange(8)))

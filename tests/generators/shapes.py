@@ -40,8 +40,8 @@ def text_of(count):
 # large.
 DONE, FRAME = "done", "fault 51"
 # The maximum cost of a text for each token or byte, relative to the usual text. The first limit is for an accepted text, the second for a
-# rejected text, whose faults need a further pass. A shape whose every token costs more of the same work sets its own maximum, as
-# docs/FIGURES.md explains.
+# rejected text, whose faults need a further pass. A shape of texts in which every token causes more of the same work sets its own
+# maximum, as docs/FIGURES.md explains.
 MOST, MOST_REFUSED, MOST_ONE_KEY = 1.5, 10.0, 2.1
 
 
@@ -122,8 +122,8 @@ class Long(Shape):
 IN_MAIN = "int main ( ) { "
 BEHIND = " return 0 ; }"
 PROGRAM_BEHIND = " int main ( ) { return 0 ; }"
-# The maximum number of a list's items, a chain's operators or a type's pointer marks; the maximum nesting depth in a function
-# body; and that depth in an initial value.
+# The maximum number of a list's elements, a chain's operators or a type's pointer marks; the maximum nesting depth in a
+# function body; and that depth in an initial value.
 AS_MANY, IN_BODY, IN_VALUE = 64, 199, 198
 
 

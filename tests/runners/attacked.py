@@ -31,8 +31,8 @@ import suite  # first: it says where the references and the generators are
 from hostile_c import BOMB as MACRO
 from served import BROKEN, C_OVERRUN, ECHO, ENDLESS, HELLO, NEAR, PAGE, PRINTING, WITHOUT_END, Server, post, raise_files, waited
 
-# The number of runs that the server executes at once. Fewer addresses attack than twice this
-# number, as SECURITY.md promises.
+# The number of runs that the server executes at once. The number of attacking client addresses is
+# less than twice this number, as SECURITY.md promises.
 PLACES = 3
 HONEST = [f"127.0.2.{number}" for number in range(1, 9)]
 ATTACKER = "127.0.3.{}"
@@ -43,19 +43,20 @@ START = """#!/bin/sh
 exec unshare --map-root-user --mount sh -c '
 mount -t tmpfs -o size={size}k none "{folder}" && export TMPDIR="{folder}" && exec "$@" 2>>"{folder}/log"' sh "{page}" "$@"
 """
-# The first bytes of the source texts whose processes the attacker may kill.
+# Texts with which those source texts begin whose processes the attacker may kill.
 MARK = b"// a text of the attacker whose processes are killed\n"
 SIGNALS = (signal.SIGKILL, signal.SIGKILL, signal.SIGSTOP, signal.SIGTERM, signal.SIGSEGV, signal.SIGXCPU)
 # The maximum growth of the server's memory during the attack, in KB: many large request bodies that arrive at
 # once leave some memory in use.
 GROWN = 64_000
-# The minimum number of honest answers in a minute; with fewer answers the test proves nothing.
+# The minimum number of answers that honest clients get in a minute; with fewer answers the test
+# proves nothing.
 LEAST = 4
 # A minute in which a run lacked processor time does not count. So the attack may take up to this
 # many times as long as planned.
 MOST = 2
-# The seconds between two measurements of who used the processors; and the share of a run's time limit for which the server must
-# have had a processor.
+# The seconds between two measurements of how much processor time each process used; and the share of a run's time limit during
+# which the server must have had a processor.
 LOOK, PART = 0.1, 1 / 3
 # The words in the message about a run that the server's time limit ended.
 STOPPED = "it took more than"
@@ -92,7 +93,8 @@ class Meter:
         while not self.ended.wait(LOOK):
             now, new, spent_now = time.monotonic(), self.delays(), self.spent_by_others()
             waited_for = {it: delay - delays.get(it, 0) for it, delay in new.items()}
-            # A request waits for the server process and for at most one process that runs it.
+            # An answer is delayed by the server process and by at most one process that executes
+            # the request. So at most one child's waiting time is added to the server's.
             children = max((it for number, it in waited_for.items() if number != self.process), default=0)
             others = max(0.0, spent_now - spent)
             lost = min(now - self.lost[-1][0], waited_for.get(self.process, 0) + children, others)
@@ -156,8 +158,8 @@ class Attacked:
         # The thread that measures processor time takes one more measurement during this pause.
         time.sleep(2 * LOOK)
         lost = self.meter.between(start, start + took)
-        # If the server's time limit ended a run that had the processor for only a part of this
-        # limit, then the run was starved.
+        # If the server's time limit ended a run that had a processor for only a fraction of this
+        # limit, then the run did not get enough processor time.
         starved = [it for it in faults if STOPPED in it and lost > (1 - PART) * self.clock]
         late = [f"{what} took {took:.1f} s, and twice the clock is {2 * self.clock} s"] * (took > 2 * self.clock)
         with self.lock:
@@ -271,7 +273,8 @@ def flood(room, client, dice):
             with contextlib.suppress(OSError):
                 it.sendall(sent)
             if sent == run:
-                # With this socket option, closing the connection sends a reset.
+                # With the socket option that is set here, closing the connection sends a TCP reset
+                # to the other side.
                 it.setsockopt(socket.SOL_SOCKET, socket.SO_LINGER, struct.pack("ii", 1, 0))
                 it.close()
         room.pause(dice.uniform(0.5, 6))

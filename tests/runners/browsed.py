@@ -196,8 +196,8 @@ class Person:
     def open(self, part="", fresh=True):
         """Opens the page, without what the browser has kept of it where it is to be fresh."""
         self.window.go("about:blank")
-        # Errors that the page reported about an earlier, stopped server do not count for the
-        # current server.
+        # Errors that the web page reported about an earlier server, which was stopped, do not count
+        # as errors of the current server.
         self.window.errors()
         self.window.go(self.server.address + part)
         self.begun()
@@ -491,7 +491,8 @@ def searches(person):
     person.want("what the browser complains of", [], person.window.errors())
 
 
-# Texts with names of the library, the second one with one that it declares itself.
+# Two program texts that use names of the library; the second text itself declares a function with a
+# library name.
 USES = "int main() {\n  print_int(sum_of(3));\n  return count_ints(NULL);\n}\n"
 OWN = "int main() {\n  return count_ints(3);\n}\nint count_ints(int n) {\n  return n;\n}\n"
 
@@ -531,7 +532,8 @@ def completes(person):
         person.want("whether the words at the mouse are seen", True, window.run("return document.querySelector('#tip').checkVisibility()"))
         person.want(f"what hardly stands out at the mouse, {scheme}", [], window.run(FAINT, CONTRAST))
         if person.pictures:
-            # The picture of the whole page would take the mouse away.
+            # A screenshot of the whole page would move the mouse away from the name that it points
+            # at.
             window.driver.save_screenshot(os.path.join(person.pictures, f"pointed-at-{scheme}.png"))
         points_at(person, "sum_of")
     window.scheme("light")

@@ -26,8 +26,8 @@ FAULTS = os.path.join(suite.ROOT, "crates", "cyc_words", "src", "fault.rt")
 ADVICE = os.path.join(suite.ROOT, "crates", "cyc_cli", "src", "advice.rt")
 NAMED = os.path.join(suite.ROOT, "crates", "cyc_rendering", "src", "named.rt")
 PAGES = os.path.join(suite.ROOT, "crates", "cyc_cli", "src", "pages.rt")
-# The parts of the documentation pages about the codes of refusals. Each part has the first code
-# number after its codes, and a description of the codes.
+# The documentation pages about the codes of refusals, by page. For each page: the first code number
+# after those that the page describes, and a description of its codes.
 PARTS = {
     "syntax": (20, "the codes of tokens and of the grammar"),
     "types": (40, "the codes of the typing rules"),
@@ -39,18 +39,19 @@ FIELDS = {"meaning", "place", "message", "line", "hint", "text", "at", "by", "ru
 HABITS = os.path.join(suite.ROOT, "docs", "habits.txt")
 HABITS_CODE = os.path.join(suite.ROOT, "crates", "cyc_cli", "src", "habits.rt")
 HABIT_FIELDS = {"code", "before", "at", "expected", "hint", "text", "place"}
-# The names of classes of words that may replace a list of words in the table of programmers'
-# habits.
+# The words that may stand in the table of programmers' habits in place of a list of words; each
+# denotes a class of words, as `number` and `name` do.
 KINDS = ("any", "number", "marked", "name", "call", "method", "wide")
 # The table of codes in docs/LANGUAGE.md, from its header to the empty line after it.
 HEAD = "| Code | What it means | Its place | Smallest text |\n|---|---|---|---|\n"
 PART = re.compile(r'"([^"]*)"(?: \* (\d+))?')
-# The prefix of a source line on a page, in the field `breaks` (the rejected text) or `mended` (the
-# corrected text); and the pattern of a line that is repeated several times.
+# The prefix of a source line on a documentation page about a code; the line is in the field
+# `breaks` (the rejected text) or `mended` (the corrected text). Also the pattern of a line that is
+# repeated several times.
 LINE = "  | "
 REPEATED = re.compile(r"(.*\S) +\((\d+) times\)")
 MANY = "A line below that ends with (N times) stands N times, with the number of the copy in place of #."
-# The width, in characters, of the text on a page.
+# The width, in characters, of the text on a documentation page about a fault code.
 WIDTH = 78
 BOOK_HEAD = """# The codes of refusals
 
@@ -82,8 +83,8 @@ class Code:
     def __init__(self, number, name):
         self.number = int(number)
         self.name = name
-        # The source lines of the rejected text on the page of a code, and those of the corrected
-        # text.
+        # The source lines of the rejected text on the documentation page of a fault code, and those
+        # of the corrected text.
         self.broken, self.whole = [], []
 
     def parts(self):

@@ -40,7 +40,7 @@ from language import values
 STEPS_AT_MOST = 10_000
 # An instruction budget that exceeds the need of every program in the test.
 STEPS_OF_IMAGES = "10000000"
-# For each program, the number of texts with one change that are checked.
+# For each program, the number of texts that are made from it by one change and then checked.
 BROKEN_TEXTS = 4
 # The number of kinds of differences for which the test prints a text, and the seconds spent on
 # minimizing that text.

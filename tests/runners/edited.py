@@ -29,8 +29,8 @@ import with_library
 
 LSP = os.path.join(suite.ROOT, "tools", "lsp")
 EXAMPLES = os.path.join(suite.ROOT, "examples")
-# The editor script performs the given actions on texts, and writes a list of observations for each
-# text.
+# A Lua script for the editor: it performs the given actions on texts, and writes a list of
+# observations, such as shown messages, for each text.
 LUA = """
 local function read(path) local file = io.open(path) local text = file:read('*a') file:close() return vim.fn.json_decode(text) end
 local told = 0
@@ -573,8 +573,8 @@ def faults_of_unchecked(program, line, words):
     return faults
 
 
-# The recorded messages of Visual Studio Code, one in a line. A field `answer` lists the parts that an answer must have, and `diagnostics`
-# the parts of the diagnostics published afterwards.
+# The recorded messages of Visual Studio Code, one on each line. A field `answer` lists values that an answer must contain, and
+# `diagnostics` values that the diagnostics published afterwards must contain.
 TRACE = os.path.join(suite.TESTS, "edited", "vscode.jsonl")
 
 

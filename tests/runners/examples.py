@@ -21,17 +21,18 @@ from with_library import LIBRARY
 
 FOLDER = os.path.join(suite.ROOT, "examples")
 INDEX = os.path.join(FOLDER, "README.md")
-# The pattern of a program's entry in the index.
+# The pattern of the line about an example program in the index of the examples.
 LISTED = re.compile(r"^\| `(\w+\.cyc)` \|", re.M)
 LANGUAGE = os.path.join(suite.ROOT, "docs", "LANGUAGE.md")
 FROM_C = os.path.join(suite.ROOT, "docs", "FROM_C.md")
 HINTS = os.path.join(suite.TESTS, "from_c.txt")
-# A program with a placeholder for fragments, and a row of the table below the program: the row's number, and the first code
-# span of its last cell.
+# The pattern of a program with a placeholder for fragments, and that of a line of the table below it. A table line has a
+# number and, as the first code span of its last cell, a fragment.
 FRAME = re.compile(r"^(?:    .*\n)+", re.M)
 HERE = "/* here */"
 FRAGMENT = re.compile(r"^\| (\d+) \|.* \| (?:`` (.+?) ``|`([^`]+)`)[^|]*\|$", re.M)
-# The pattern of a row's left cell: the row's number, and the first code span of the cell.
+# The pattern of the left cells of a table line: the line's number, and the first code span after
+# it.
 LEFT = re.compile(r"^\| (\d+) \| (?:`` (.+?) ``|`([^`]+)`)", re.M)
 # A program in a document: indented lines, with empty lines between them; the first line states the
 # program's verdict.

@@ -22,8 +22,8 @@ import wrong
 FOLDERS = (("src", ".rt"), ("specs", ".antt"), ("proofs", ".antt"))
 # The number words that sentences use for numbers.
 WORDS = "no one two three four five six seven eight nine ten eleven twelve thirteen fourteen fifteen sixteen".split()
-# The fields in the first lines of a crate's document, in this order. The document of a crate of tests or
-# figures may lack some of these fields.
+# The fields in the first lines of the document about a crate, in this order. The document about a crate
+# that has only tests or figures may lack some of these fields.
 FIELDS = ("Definitions", "Contract", "Proved")
 
 Head = collections.namedtuple("Head", ("what", *FIELDS))
@@ -84,7 +84,8 @@ def rows_of_sizes():
     yield "all", *(f"{number:,}" for number in total)
 
 
-# A table in a document: the first line of the table, and its expected rows.
+# A table in a document: the document, the first line of the table, and the rows that the table must
+# have.
 Table = collections.namedtuple("Table", "document head rows")
 TABLES = [
     Table("docs/ARCHITECTURE.md", "| Crate | What it is | Proved | Definitions (`specs/`) | Contract |", rows_of_architecture),
@@ -211,8 +212,8 @@ def faults_of(path, text):
               for number, (one, other) in enumerate(zip(wanted, got), 1) if one != other]
     if len(wanted) != len(got):
         faults.append(f"it has {len(got)} lines, and would have {len(wanted)}")
-    # After a missing or extra line all following lines differ, so only the first three faults are
-    # returned.
+    # After a missing or extra line of a document all following lines differ, so only the first
+    # three faults are returned.
     return faults[:3]
 
 

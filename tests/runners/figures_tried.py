@@ -48,8 +48,8 @@ Seconds of processors, and in brackets those on the clock while such a check ran
 The whole gate: 1.0 processor minutes in 0.5 minutes, on 4 processors, 2026-01-01."""
 
 
-# The process sizes of a sample, in bytes, and the memory peaks expected in MB; the second sample has no sizes. The two processes of
-# the proof of `low` take more memory than its tests.
+# The sizes of the processes in each sample, in bytes, and the memory peaks expected in MB; the second sample has no sizes. The two
+# processes of the proof of `low` take more memory than its tests.
 SIZES = {101: 600 << 20, 102: 200 << 20, 103: 500 << 20, 106: (900 << 20) + 1, 900: 5000 << 20}
 MEMORY = "low 800\ntop 901\n"
 
@@ -93,7 +93,8 @@ def are_jobs_right():
     return right and jobs.jobs_here(jobs.peaks(), {}) >= 1
 
 
-# The output of a finished gate, and variants of one part for which no table is published.
+# The output of a finished gate, and replacements of one piece of it, after each of which no table
+# is published: not finished, a failure, changed sources, no commit.
 GATE_LEFT = f"""{COSTS}
 The commit: Words wrap
 1234 passed, 0 failed
@@ -241,8 +242,8 @@ COSTS_OF_TEXTS = [
     (WITH_FAULT, lambda tokens: 10500 * tokens, "fault 20 at 1:1", ["for each part"]),
     (WITH_FAULT, lambda tokens: 1000 * tokens, "done", ["the last line"]),
     (WITH_FAULT, lambda tokens: 2 * tokens * tokens, "fault 20 at 1:1", ["twice as long"]),
-    # The part of a text before the repeated forms does not grow, and each token is charged its share
-    # of the cost of that part.
+    # The part of a text before its repeated forms has a constant length, and each token is charged
+    # its share of the cost of that part.
     (BEHIND_MUCH, lambda tokens: 1000 * tokens + 400_000, "done", []),
     (BEHIND_MUCH, lambda tokens: 1000 * tokens + 600_000, "done", ["for each part"]),
     (BEHIND_MUCH, lambda tokens: 500_000 + (tokens - 500) ** 2, "done", ["twice as long"]),

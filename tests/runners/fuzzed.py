@@ -31,15 +31,15 @@ import image_makers
 import in_trees
 
 MINUTES = 1
-# The maximum size of a text or an image in bytes. The next limit is the number of copies of a part
-# of an input.
+# The maximum size of a fuzzed text or image in bytes. The next limit is the number of copies that
+# the fuzzer makes of a section of an input.
 MOST_BYTES = 200_000
 MOST_COPIES = 3_000
 MOST_CHANGES = 6
 SECONDS, MEMORY = 0.5, 512 * 1024 * 1024
 # The maximum size of a written file in bytes: a write beyond this size fails.
 MOST_WRITTEN = 16 * 1024 * 1024
-# The time limit of a command in seconds.
+# The time limit, in seconds, of a command on an input of the fuzzer.
 WAITED = 20
 STEPS = "200000"
 # The exit statuses of faults, and the exit statuses that a compiled program may return.

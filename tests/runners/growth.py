@@ -32,7 +32,7 @@ MOST_GROWTH = 2.1
 MOST_MEMORY, MOST_SAID = 256, 22 * 4096
 # The minimum number of repeated forms in a generated text.
 FORMS = 4
-# A command is stopped after this number of processor seconds.
+# The number of seconds of processor time after which a command is stopped.
 SECONDS = 120
 COUNTER = ["valgrind", "--tool=cachegrind", "--cache-sim=no", f"--cachegrind-out-file={os.devnull}"]
 COUNTED = re.compile(r"I +refs: +([\d,]+)")
@@ -40,8 +40,8 @@ BEHIND = {"check": [], "compile": ["-o", "image"], "run": [], "disasm": []}
 KINDS = {"Text": shapes.TEXTS, "Image": image_shapes.IMAGES, "Loop": image_shapes.LOOPS}
 
 # `Cost` is the cost of a command on a file: instructions (None if the command did not end), peak memory in MB, and the size of the image
-# made. `Cost` also has the number of bytes and the last line on standard error. `Figures` is the cost of a shape's files: the ratio to the
-# usual file, and the ratio to half as many parts.
+# made. `Cost` also has the number of bytes and the last line on standard error. `Figures` is the cost of the files of one shape: the ratio
+# to the usual file, and the ratio to a file with half as many repeated forms.
 Cost = collections.namedtuple("Cost", ("instructions", "memory", "length", "said", "made"))
 Figures = collections.namedtuple("Figures", ("share", "growth", "cost"))
 

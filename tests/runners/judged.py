@@ -45,7 +45,7 @@ esac
 # out.
 WAITS = "sleep {}\necho 'REPORT' > \"$1\"\necho returned 0 >&2\n"
 NO_MEMORY = b"sleep 0\necho no memory >&2\nexit 8\n"
-# A complete report, and texts that are not reports.
+# A complete report of a run, and texts that the judge must not accept as reports.
 REPORT = (
     '{"end":"returned","value":0,"exception":null,"cause":null,"image_fault":null,"limit":null,"instructions":1,"counter":0,'
     '"most_calls":null,"most_pages":null,"read":0,"written":0}')

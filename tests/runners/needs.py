@@ -42,11 +42,13 @@ case "$*" in
 *) echo "1 passed, 0 failed";;
 esac
 """
-# The total of the stand-in's counts: 1 for the proofs, 10 for the cases, 3 for the codes, 4 for memory, and 1 for each of
-# twenty-two other tests. The failures are those of SAYING.
+# The total of the results that the stand-in for Python prints. It has 1 passed for the proofs, 10 for the cases, 3 for
+# the codes, 4 for memory, and 1 for each of twenty-two other tests. The failures are those that the stand-in SAYING
+# prints.
 ADDED = "43 passed, 5 failed"
 
-# Case files with a mistake, and the fault that the reader of case files reports for each.
+# Case files that contain a mistake, each with the fault that the reader of case files must report
+# for it.
 BAD_CASES = {
     "": "there is no case",
     "# a remark\n": "there is no case",
@@ -67,7 +69,7 @@ PARTINGS = [
     (*FAR, ABOUT), ((FAR[0], "", 0), (FAR[1], "", 0), ABOUT), ([b"x", FAR[0]], [b"x", FAR[1]], ABOUT), ("a" * 60, "b" * 60, ()),
     ("a" * 70, "a" * 71, (f"at 70 wanted '{30 * 'a'}'", f"got    '{31 * 'a'}'")), ((1,), (1, 2), ("1 parts, and 2 in place of them",)),
 ]
-# Test scripts, which their checkers accept or reject.
+# Test scripts, of which a checker of scripts must accept some and reject the others.
 SCRIPTS = {
     "good.sh": '#!/bin/sh\necho "$1"\n', "good": "#!/usr/bin/env python3\nprint(1)\n", "none.txt": "cd $1\n", "out/made.sh": "cd $1\n",
     "bad.sh": "#!/bin/sh\ncd $1\n", "bad": "#!/bin/sh\nls $1\n", "bad.py": "import os\n", ".ci/bad": "#!/usr/bin/env bash\ncd $1\n",

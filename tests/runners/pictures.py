@@ -16,8 +16,8 @@ import suite
 from sources import stands_on
 
 FOLDER = os.path.join(suite.ROOT, "docs", "pictures")
-# A stage of the pipeline: its name, its crate, and the type on the arrow that leaves the stage. The first row
-# compiles a program, the second runs it.
+# The two rows of stages in the picture of the pipeline. Each stage has its name, its crate, and the type on
+# the arrow that leaves it. The first row compiles a program to an image, the second runs the image.
 ROWS = (
     (("read", "cyclone", "text"), ("lex", "cyc_lex", "tokens"), ("parse", "cyc_parse", "Tree"), ("check", "cyc_check", "TypedTree"),
      ("flow", "cyc_flow", "Flowed"), ("lower", "cyc_lower", "Plain")),

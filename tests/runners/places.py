@@ -14,11 +14,12 @@ import suite
 DOCUMENT = re.compile(r"crates/(\w+)/README\.md")
 CRATE = re.compile(r"`(cyc_\w+|cyclone)`")
 SPAN = re.compile(r"(?<!`)`([^`]+)`(?!`)")
-# The pattern of a path: parts between slashes, or the name of a source file. A star, or two points at the path's end,
-# stand for any letters.
+# The pattern of a path in a document: names separated by slashes, or the name of a source file. A star, or two dots
+# at the path's end, stand for any characters.
 PATH = re.compile(r"[\w*-]+(/[\w*-]+)+(\.rt|\.antt|\.md|\.\.)?|([\w*-]+/)+|[\w*-]+\.rt")
 NAME = re.compile(r"[A-Z]\w*(\.\.)?")
-# The pattern of the text between a path and the next name of the same list.
+# The pattern of the text between a path and the next name of the same enumeration in a sentence: a
+# comma, `and` or `or`.
 BETWEEN = re.compile(r",? (and |or )?")
 PARTS = ("", "src", "specs", "proofs")
 FILES_OF = re.compile(r"\| File of `(\w+)/` \|")

@@ -28,7 +28,8 @@ int main() {
   if (i == 0) return twice(i) / 1; else { return twice(most) % 5; }
 }
 """
-# A program with nearly every form of the language.
+# A program that contains nearly every form of declaration, statement and expression of the
+# language.
 WHOLE = """\
 datatype exn { Bad(int); };
 struct List<`r> { int head; struct List<`r> *`r tail; };
@@ -86,7 +87,7 @@ TEXTS = {
 }
 # An image with one segment, which returns 3 after five instructions.
 SMALL = "24040001 10000002 24840002 24840004 24020003 0000000c"
-# The limits for a run of the program THROWS: heap pages and nested calls.
+# The limits, on heap pages and on nested calls, for a run of the program THROWS.
 PAGES, CALLS = "8", "32"
 OLD = b"what was there"
 # The last line and the exit status of a command when memory runs out.

@@ -24,10 +24,10 @@ import suite
 
 CASES = os.path.join(suite.TESTS, "cases")
 WHOLE = os.path.join(suite.TESTS, "whole")
-# The options of `run` that take a value; these options are kept when a run is repeated with both heap
-# implementations.
+# The options of `run` that take a value; the same options are used when a test case repeats a run
+# with the other heap implementation.
 LIMITS = {"--pages", "--calls", "--steps", "--at-most-pages", "--at-most-calls"}
-# The name of the file that contains the text of a case line `? LINE | TEXT`.
+# The name of the file to which the text of a case line `? LINE | TEXT` is written.
 TEXT_FILE = "text.cyc"
 # A case with a file larger than this number of bytes is skipped by --quick.
 LONG = 8192
@@ -313,7 +313,8 @@ def look_holds(reader, rest):
     return act
 
 
-# The case-file words that create, change or examine a file, with the action of each.
+# The words of a case file that create, change or examine a file, each with the action that it
+# causes.
 FILES = {
     "file": lambda reader, rest: made(reader, rest, reader.block(is_of_shell=True).encode("latin-1")),
     "bytes": make_bytes,

@@ -41,8 +41,8 @@ HERE = os.path.dirname(os.path.abspath(__file__))
 # The program's case files that only check source texts and take little time.
 TEXT_CASES = ["flow", "parsing", "texts", "tokens", "types"]
 
-# With both heap implementations, the stand-in acts alike for each image except two: for one the output differs, for the other the
-# instruction count.
+# A stand-in for the program. It gives the same results with both heap implementations for each image except two: for one the
+# output differs, for the other the instruction count.
 STAND_IN = """#!/bin/sh
 run() {
   cat
@@ -131,7 +131,8 @@ closed in out err
 ends 0
 """
 
-# Only the last two of these cases run an image for which the two heap implementations differ.
+# Of the test cases in this text, only the last two run an image for which the two heap
+# implementations differ.
 STORES = r"""
 == what is no run of an image by limits
 > say run
@@ -157,7 +158,8 @@ bytes counts.elf x
 ends 0 done
 """
 
-# Each of these test cases violates one expectation.
+# Test cases for the test runner itself, each of which must fail because it violates one
+# expectation.
 BAD = r"""
 == a wrong output
 > say hi
@@ -213,8 +215,8 @@ def last_line_of_run(cases, folder, *options):
     return done.stdout.rstrip().split("\n")[-1], done.returncode, done.stdout + done.stderr
 
 
-# Changes of documents that the checker must detect: a row of each table, numbers, paths and file names,
-# lines.
+# Changes to documents that the checker must detect: changed rows of tables, numbers, paths, file names
+# and other lines.
 DRIFTS = [
     ("docs/ARCHITECTURE.md", "| the tokens of the longest-match rule", "| all tokens of the longest-match rule"),
     ("docs/ARCHITECTURE.md", "| `cyc_lex` |", "| `cyc_lexer` |"),
@@ -256,8 +258,8 @@ def are_drifts_found():
     return right
 
 
-# Proof files with their lemmas, and the names that have two different statements. Layout, visibility and comments make no
-# difference; definitions and answer files do not count.
+# Example proof files with lemmas, and the names of lemmas that the checker must report because they have two different
+# statements. Layout, visibility and comments make no difference; definitions and files named Answers do not count.
 PROOFS = {
     "one/proofs/First.antt": "pub same : A\n    → B\nsame = it\n\npub other : A\n\n-- third : A\nabbrev fourth : A\n",
     "two/proofs/topic/Second.antt": "same : A → B\nother : B\nthird : B\nfourth : B\nlast : A\n",
@@ -387,7 +389,8 @@ def is_case_right(case):
     return not faults
 
 
-# Stand-ins for the emulator that give a wrong result for every image.
+# Stand-ins for the emulator that give a wrong result for every image, so the test of images must
+# fail with each.
 WRONG_MACHINES = {
     "a wrong output": "printf x; echo 'returned 3' >&2; exit 3",
     "a last line that is none of the manual's": "echo 'returned three' >&2; exit 3",
@@ -458,8 +461,8 @@ value = given[0] if given else -1
 print("returned", value, file=sys.stderr)
 sys.exit(value & 255)
 """
-# Behaviours in two dialogs. In the first dialog all input is available from the start and most of it stays unread; in the second the
-# input ends after the prompt.
+# Behaviours of a test program in two dialogs. In the first dialog all input is available from the start and most of it stays
+# unread; in the second the input ends after the prompt.
 WAYS_TO_ASK = {
     "os.write(1, b'A'); given = os.read(0, 8192)": "2 passed, 0 failed",
     "given = os.read(0, 8192); os.write(1, b'A')": "1 passed, 1 failed",

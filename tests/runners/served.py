@@ -596,7 +596,7 @@ def has_full_disks(program, page):
 
 # ---- many at once
 
-# The requests sent under load, and the beginning of the last object of each answer.
+# The requests sent under load, each with members that the last JSON object of its answer must have.
 LOADS = (
     ({"source": ECHO, "input": "#"}, {"now": "ended", "end": "returned"}),
     ({"source": HELLO}, {"now": "ended", "end": "returned"}),

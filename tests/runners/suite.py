@@ -20,14 +20,15 @@ ROOT = os.path.dirname(TESTS)
 sys.path += [os.path.join(TESTS, "references"), os.path.join(TESTS, "generators"), os.path.join(ROOT, "tools")]
 from processes import family  # noqa: E402 it is in one of these folders
 PROGRAM = os.path.join(ROOT, "crates", "cyclone", "out", "cyclone")
-# The two heap implementations that `run` can use.
+# The names of the two heap implementations between which `run` can choose.
 STORES = ("plain", "pages")
 # The limit of a command in processor seconds, and the factor for its limit in elapsed seconds: other work may occupy the
 # processors meanwhile.
 SECONDS, CLOCK = 60, 20
 # The stack limit of each program under test, in MB of 2^20 bytes: half of a shell's default.
 STACK = 4
-# The file that lists the commands that tests run in addition to the program, and their packages.
+# The file that lists the external commands that the tests run in addition to the program, with the
+# Debian packages that contain them.
 TOOLS = os.path.join(TESTS, "tools.txt")
 # For each prefix of a module's name in tools.txt, as in tools.sh: the variable that names the folder of these modules, and the folder in
 # Debian. They are modules of python3, JavaScript modules for web pages, and files that programs of 32 bits are linked with.

@@ -93,7 +93,8 @@ def messages_of(lines):
             is_noted = True
         elif line != FURTHER:
             found[-1].append(line)
-        # A source position within a message belongs to the message; the hint ends the message.
+        # A line with a source position inside a message is part of this message; the line with the
+        # hint is the last line of a message.
         is_noted = is_noted and not line.startswith("    hint: ")
     return [Message(block) for block in found]
 

@@ -99,7 +99,8 @@ class Tests:
             return f"{words} at {line} is told as: {first.place}: {first.message}"
         return ""
 
-    # The checks of properties that every translation has.
+    # The checks of properties that the translation of every C program must have, such as the layout
+    # of `cyclone format`.
 
     def is_laid_out(self, path, folder):
         """The text is in the layout of `cyclone format`, and each place is a line of the C file."""

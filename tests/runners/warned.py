@@ -148,7 +148,7 @@ def warnings_said(program, folder, text):
 def faults_of(program, folder, thing):
     said, are_more, last = warnings_said(program, folder, thing.text)
     wanted = sorted(thing.wanted)
-    # Two warnings at one source position may appear in either order.
+    # Two compiler warnings at one source position may appear in either order in the output.
     faults = [] if last == ["done"] else [f"the last line is {last}"]
     if getattr(thing, "read", []):
         faults.append(f"the second reading warns of {thing.read}")

@@ -23,7 +23,7 @@ from language import placed, values
 STEPS_AT_MOST = 10_000
 # The number of source positions in each program at which the test plants a mistake.
 PLANTED = 2
-# Statements that throw, each for a different reason.
+# Statements of the language that throw an exception, each for a different reason.
 MISTAKES = (
     "{ int *planted = NULL; *planted = 1; }",
     "{ int ?planted = new {for planted_at < 3 : 0}; planted[3] = 1; }",

@@ -29,7 +29,7 @@ WORKED = os.path.join(suite.TESTS, "worked")
 # address of this memory.
 ROOM, POINTER = machine.DATA + 0x300000, 26
 BREAK = 0x0D
-# The text segment, of six words, of the images that test other segments.
+# The text segment, of six machine words, of those test images whose other segments are tested.
 TEXT = "3c081000 8d090004 8d0a0008 3c0b0040 8d6c0100 8d6d0018"
 # The code of an image that stores 7 at an address, loads it again, and stops.
 STORED = "3c08{high} 3508{low} 24090007 ad090000 8d0a0000 0000000d"

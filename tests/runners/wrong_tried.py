@@ -8,13 +8,13 @@ import sys
 
 import suite  # first: it makes the tools importable
 
-# Two crates, one above the other, whose functions return numbers. The stand-in for the prover proves a function if its body is the
-# right number.
+# Two crates, of which `top` depends on `low`; their functions return numbers. The stand-in for the prover proves a function if its
+# body is the right number.
 CRATES = {"low": ["one", "two"], "top": [f"f{it:02}" for it in range(20)]}
 FUNCTION = "/// Answers a number.\npub fn {0}() -> u32\n    ensures {{ result ≡ {0} }}\n{{\n    n_{0}\n}}\n"
 CASE = "== {0}_is_{1}\ntests: {0} is itself\nfile: src/lib.rt\nold:     n_{0}\nnew:     {1}\nrefused: {0}\n\n"
-# A stand-in for the prover. The stand-in's answer for a function depends on the name in the function's body: no proof names `gone`, and
-# `other` removes a name from the proof.
+# A stand-in for the prover. Its answer for a function depends on the name in the function's body. For `other` it reports that a name
+# used in the proof is missing; for `gone` it reports only that the contract is not proved.
 PROVER = r"""#!{python}
 import os, re, sys
 words = sys.argv

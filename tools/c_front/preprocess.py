@@ -21,8 +21,8 @@ LIMITS = {"__INT_MAX__": "2147483647", "__SCHAR_MAX__": "127", "__SHRT_MAX__": "
           "__ORDER_LITTLE_ENDIAN__": "1234", "__ORDER_BIG_ENDIAN__": "4321", "__UINTMAX_TYPE__": "unsigned long long"}
 MEANINGFUL = re.compile(r"vector_size|mode|(?<!may_)alias|cleanup|constructor|destructor|weak|transparent_union|scalar_storage|ifunc")
 LAYOUT = re.compile(r"packed|aligned")
-# The name of a marker field in a struct whose layout an attribute changes, and the name that replaces the omitted middle
-# operand of `a ?: b`.
+# The name of a field that marks a struct whose layout a C attribute changes, and the name that replaces the omitted
+# middle operand of `a ?: b`.
 LAYOUT_MARK, SAME_MARK = "cyclone_layout", "cyclone_same"
 KEYWORDS = set("void int char short long unsigned signed float double struct union enum typedef _Bool".split())
 STORAGE = ("static", "extern", "register", "const", "volatile", "inline")

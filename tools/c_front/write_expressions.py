@@ -24,7 +24,8 @@ def assigns(node, symbol):
 class ExpressionWriter(WideWriter):
     """The part of a function's writer that is about expressions."""
 
-    # Returns the exact value of a number, a pointer, or a pointer to an aggregate.
+    # Returns the translation of an expression whose value is a number, a pointer, or a pointer to
+    # an aggregate; wide types are refused.
 
     def value(self, node):
         if t.is_wide(node.type):

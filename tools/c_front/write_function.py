@@ -30,7 +30,8 @@ class FunctionWriter(LibraryWriter):
         self.uses_region = self.needs_region()
         self.region = "`" + (program.region_name if self.uses_region else program.function_name(symbol, symbol.place))
 
-    # The facts that must be known before a function's body is written.
+    # The facts that must be known before a function's body is translated, such as the objects that
+    # a loop declares, which are made before the loop.
 
     def mark_hoisted(self, stmts, inside):
         """Objects that a loop declares are made once, before it."""

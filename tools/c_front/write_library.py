@@ -137,7 +137,7 @@ class LibraryWriter(StreamWriter):
     def do_perror(self, node):
         self.effect(node.a[0])
 
-    # The translation of calls that print texts.
+    # The translation of calls of C library functions that print texts.
 
     def constant_text(self, node):
         return node.a[0].v if node.op == "decay" and node.a[0].op == "string" else None

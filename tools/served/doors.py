@@ -175,14 +175,16 @@ class Connection(web.RequestHandler):
             if self._request_count < 2:
                 super().data_received(data[start:start + SLICE])
         if self._request_count == 1 and not self.has_come:
-            # The request's work sets another time limit when it begins.
+            # While a request is received, RECEIVING limits its time; executing the request sets
+            # another time limit.
             self.has_come = True
             self.end_in(RECEIVING)
         self.received += len(data)
         if not self._request_count and self.received > HEAD:
             self.say(431, "the head of the request is too long")
         elif self._request_count > 1:
-            # The first request is answered, and then the connection is closed.
+            # Only the first request on a connection is answered; after the answer the connection is
+            # closed.
             self.close()
             self.drop(data)
 

@@ -32,8 +32,8 @@ class Line:
         self.free, self.most_waiting, self.seconds = places, waiting, seconds
         self.each, self.each_waiting = part_of(places, share), part_of(waiting, share)
         self.held, self.spent, self.halved = collections.Counter(), collections.Counter(), time.monotonic()
-        # The address of each waiting request, in the order of arrival, and the number of requests before
-        # each.
+        # The address of each waiting request, in the order of arrival, and for each waiting request the
+        # number of requests before it in the queue.
         self.waiting, self.before = {}, {}
 
     @contextlib.asynccontextmanager

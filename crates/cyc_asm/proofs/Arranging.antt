@@ -1,4 +1,5 @@
--- The order of code lines that the assembler chooses contains each line once, and the labelled machine behaves as with the original order.
+-- The order of code lines that the assembler chooses contains each line once. The machine that executes labelled code directly behaves
+-- with the new order as with the original order.
 use Rattle.std.proofs.Common.{◌≡◌, ℕ, zero, suc, ◌+◌, ◌-◌, ◌<◌, List, [], length, nat_le, Bool, true, false, cond, not, Option, None, Some, refl, sym, ap, subst, ◌∙◌, arith, inl, inr}
 use Rattle.std.specs.Prelude.{◌&&◌, All, slice_get, flat_map}
 use Rattle.std.specs.List.{swap, range_with_len}
@@ -56,8 +57,8 @@ swap_places code number first second movable passing unnamed here following =
 
 -- ---- properties that a reordering keeps
 
--- `Keeps` says that the new order is a permutation of the original lines and that returns go to the same lines. Each run of the
--- reordered code follows a run of the original code.
+-- `Keeps` says that the new order is a permutation of the original lines and that returns after calls go to the same lines.
+-- Each run of the reordered code follows a run of the original code.
 pub record Keeps (globals : List ℕ) (code order : List Line) : Type 0 where
   pub permutes : IsPermutation code order
   pub points : (line : ℕ) → IsReturnPoint (record { lines = order; globals = globals }) line → IsReturnPoint (record { lines = code; globals = globals }) line
@@ -231,8 +232,8 @@ same_addresses code other addresses long points places = record {
   below = λ line inside. places.below line (omega (arith, inside, long));
 }
 
--- Words that represent some code also represent any code with as many lines, equal return points and an equal greatest
--- total number of words.
+-- Words that represent some labelled code also represent other labelled code if three things are equal. They are the
+-- number of lines, the lines to which calls return, and the most words that all lines may take.
 text_as : (code other order : Labelled) (addresses : ℕ → ℕ) (words : List ℕ) → length other.lines ≡ length code.lines → Points code other → all_words other.lines ≡ all_words code.lines
     → IsTextInOrder code order addresses words → IsTextInOrder other order addresses words
 text_as code other order addresses words long points most text = record {
@@ -254,7 +255,7 @@ assembled_means code formed fits =
     (keeps_before code.globals code.lines (length code.lines)).new_points (sym (same_words code.lines))
     (in_order_means (in_order code) (still_formed code.lines formed) (still_fits code.lines fits))
 
--- Words that represent labelled code run as the labelled code does.
+-- Words that represent labelled code have the behavior that the labelled code has on its own abstract machine.
 pub runs : (code : Labelled) (addresses : ℕ → ℕ) (words : List ℕ) → IsTextOf code addresses words → Runs code addresses words
 runs code addresses words text =
     (keeps_before code.globals code.lines (length code.lines)).runs addresses words (runs_in_order (in_order code) addresses words (in_its_order code addresses words text))

@@ -41,7 +41,8 @@ pub fetches : (words : List ℕ) (c : Configuration) (at next : ℕ) (in_slot : 
 fetches words c at next in_slot i here multiple =
     action_of-instruction (world_at words c at next in_slot).machine (word_of i) i (aligned_address at multiple) here.word (decodes_to i here.encodable)
 
--- An instruction whose effect involves no choice leads to exactly one next state of the processor, memory and devices.
+-- An instruction that makes no system call, and so has only one possible effect, leads to exactly one next state of
+-- the processor, memory and devices.
 pub goes_to : (words : List ℕ) (c c' : Configuration) (at next next' : ℕ) (in_slot in_slot' : Bool) (i : Instr) → IsAt words at i → at % 4 ≡ 0 → c'.output ≡ c.output → c'.input ≡ c.input
     → executes (world_at words c at next in_slot).machine i ≡ Does Ran (world_at words c' next next' in_slot').machine
     → (u : World) → Goes (world_at words c at next in_slot) u → u ≡ world_at words c' next next' in_slot'

@@ -61,7 +61,7 @@ words_of-some (lines.Jump label) = omega arith
 words_of-some (lines.Call label) = omega arith
 words_of-some lines.Return = omega arith
 
--- The maximum number of words before the next line is that before this line plus the most words that this line takes.
+-- The maximum number of words before the next line is the maximum number before this line plus the most words that this line can take.
 pub most_before-suc : (code : List Line) (number : ℕ) (line : Line) → slice_get code number ≡ Some line → most_before code (suc number) ≡ most_before code number + words_of line
 most_before-suc code number line found =
     let below = slice_get_within code number line found in
@@ -79,7 +79,8 @@ pub position-unreached : (code : List Line) (number : ℕ) → is_unreached code
 position-unreached code number unreached =
     ap (λ b. position code number + cond b 0 (width_in code number (slice_get code number))) unreached ∙ (let e : position code number + 0 ≡ position code number = omega arith in e)
 
--- The position of the next line is at least that of this line, and at most the line's width greater.
+-- The position of the next line is at least that of this line. It is at most that position plus the
+-- number of words that this line takes if it is reachable.
 pub position-next : (code : List Line) (number : ℕ) (line : Line) → slice_get code number ≡ Some line
     → (position code number ≤ position code (suc number)) × (position code (suc number) ≤ position code number + width_of code number line)
 position-next code number line found = by (is_unreached code number) refl
@@ -92,7 +93,8 @@ position-next code number line found = by (is_unreached code number) refl
 pub most_before-all : (code : List Line) → most_before code (length code) ≡ all_words code
 most_before-all code = ap all_words (take_all (length code) code (omega arith))
 
--- `IsBetween` says that the lines between two lines take at most the most words that `words_of` allows for them.
+-- `IsBetween` says that the lines from one line up to another take no more words than the sum of the most words
+-- that `words_of` allows for each of them.
 
 pub record IsBetween (code : List Line) (from to : ℕ) : Type 0 where
   pub up : position code from ≤ position code to

@@ -132,7 +132,7 @@ module _ (code : Labelled) (addresses : ℕ → ℕ) where
   leads number (lines.Call label) c = addresses label
   leads number lines.Return c = word_in c RETURN_ADDRESS
 
-  -- An instruction that may be moved has the same effect before a branch or jump and after it.
+  -- An instruction that may be moved into a delay slot has the same effect before the branch or jump of this slot and after it.
   pub headed_moves : (number : ℕ) (line : Line) (c : Configuration) (i : Instr) → moves i line ≡ true → did (headed number line c) i ≡ headed number line (did c i)
   headed_moves number (lines.Ordinary other) c i may = refl
   headed_moves number (lines.Branch condition label) c i may = refl

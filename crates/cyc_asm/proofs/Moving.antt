@@ -95,7 +95,8 @@ after_runs c (MoveFrom Low d) movable = refl
 after_runs c (MultiplyDivide op l r) movable = refl
 after_runs c (Arithmetic op d l r) movable = refl
 
--- The labelled machine performs a movable instruction if the machine has no reason to refuse it, such as a misaligned address.
+-- The machine of labelled code performs an instruction that may be moved into a delay slot, unless it has a reason to refuse
+-- it, such as a misaligned address.
 pub performs_did : (c : Configuration) (i : Instr) → is_movable i ≡ true → cause_of (machine_of c) i ≡ None → Performs c i (Running (did c i))
 performs_did c i movable allowed = (
   Ran,
@@ -113,7 +114,7 @@ performs_refused c i cause is = (
   refl,
 )
 
--- A movable instruction that the machine does not refuse leads to exactly one state.
+-- An instruction that may be moved into a delay slot, and that the machine does not refuse, leads to exactly one next state.
 pub only_did : (c : Configuration) (i : Instr) → is_movable i ≡ true → cause_of (machine_of c) i ≡ None → (next : State) → Performs c i next → next ≡ Running (did c i)
 only_did c i movable allowed next (event, left, acts, is) =
     let ran : (event ≡ Ran) × (left ≡ after (machine_of c) i) =
@@ -123,7 +124,7 @@ only_did c i movable allowed next (event, left, acts, is) =
     ∙ ap (λ (s : machines.State). settled (reported (world_of c) Ran s) (c.line + 1) s.phase) ran.1
     ∙ ap (settled (reported (world_of c) Ran (after (machine_of c) i)) (c.line + 1)) (after_runs c i movable)
 
--- A movable instruction leaves the length of the stack unchanged.
+-- An instruction that may be moved into a delay slot leaves the length of the call stack unchanged.
 pub same_stack : (c : Configuration) (i : Instr) → is_movable i ≡ true → length (did c i).stack ≡ length c.stack
 same_stack c (Immediate op t b h) movable = refl
 same_stack c (LoadUpper t h) movable = refl
@@ -205,7 +206,7 @@ unwritten_stays c i n movable none = go (n == 0) refl
         ∙ sym (ap (λ (x : Bool). if x then 0 else slice_index c.registers n) zero)
     go false some = sets-stays c i n movable (sym (ap (λ (x : Bool). not x && names_result i n) some) ∙ none)
 
--- A branch is taken after a movable instruction exactly if it is taken before this instruction.
+-- A branch is taken after an instruction that may be moved into its delay slot exactly if it is taken before this instruction.
 pub holds_stays : (c : Configuration) (i : Instr) (condition : Condition) → is_movable i ≡ true → leaves i condition ≡ true → holds_of (word_in (did c i)) condition ≡ holds_of (word_in c) condition
 holds_stays c i (conditions.Registers op left right) movable free =
     ap (λ (x : ℕ). branch_taken op x (word_in (did c i) right.number)) (unwritten_stays c i left.number movable (not-true (writes i left.number) (and_left _ _ free)))

@@ -173,7 +173,7 @@ module _ (words : List ℕ) (inside : text_base + 4 * length words ≤ text_end)
       ((above.machine.phase ≡ phases.Running) × (below ≡ world_at words (from_world above 0) next (add_of next 4) false))
       ⊎ ((end : End) × (above.machine.phase ≡ phases.Over end) × (below.machine.phase ≡ phases.Over end) × (seen_of below ≡ seen_of above))
 
-  -- `Matched` says that the labelled machine's action may emit an event after which the states of both machines match.
+  -- `Matched` says that the machine of labelled code may emit an event after which its state and the state of the MIPS machine match.
   abbrev pub Matched : (at next : ℕ) (in_slot : Bool) → Action → (event : Event) → machines.State → Type 0
   Matched at next in_slot above event s =
       (e : Event) × (t : machines.State) × Acts above (machine_of c) e t

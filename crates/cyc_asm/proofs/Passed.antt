@@ -1,4 +1,4 @@
--- The assembler skips a line without a delay slot: it moves no instruction down to this line.
+-- The assembler skips a line without a delay slot: it moves no earlier instruction down to this line.
 use Rattle.std.proofs.Common.{◌≡◌, ℕ, suc, ◌+◌, ◌-◌, ◌<◌, nat_le, List, Bool, true, false, cond, not, Option, Some, refl, ap, ◌∙◌, arith}
 use Rattle.std.specs.Prelude.{◌&&◌, slice_get}
 use Rattle.std.specs.Option.{is_some}

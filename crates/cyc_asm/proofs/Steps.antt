@@ -55,7 +55,7 @@ module _ (code : Labelled) (addresses : ℕ → ℕ) (words : List ℕ) (text : 
     abbrev Goal : List ℕ → World → Type 0
     Goal places w = IsMatchedStep (above code addresses) world_machine (matching code addresses words) (labelled.Running c) places w
 
-    -- `May` says that the labelled machine may reach this state by executing the given line.
+    -- `May` says that the machine of labelled code may reach this state by executing the given line.
     abbrev May : Line → labelled.State → Type 0
     May line next = labelled.Executes code addresses c line next
 
@@ -75,7 +75,8 @@ module _ (code : Labelled) (addresses : ℕ → ℕ) (words : List ℕ) (text : 
       on_the_way : (w : World) → seen_of w ≡ labelled.seen_of (labelled.Running c) → status_in w.machine.phase ≡ Running → Way w
       on_the_way w seen running = way_before (above code addresses) world_machine (matching code addresses words) (labelled.Running c) w running seen
 
-      -- If the MIPS machine has reached the target, the step of the labelled machine is matched.
+      -- If the MIPS machine has reached the state that matches the next state of the labelled machine, the step of the labelled machine is
+      -- matched.
       arrived : (places : List ℕ) (c' : Configuration) (target : ℕ) → May line (labelled.Running c') → length c'.stack ≤ 1048576 → IsMet code.lines c'.line → target ≡ addresses c'.line
           → 0 < length places → Goal places (world_at words c' target (add_of target 4) false)
       arrived places c' target may few met is some = record {
@@ -412,7 +413,8 @@ module _ (code : Labelled) (addresses : ℕ → ℕ) (words : List ℕ) (text : 
               (few, met.reached, at_empty code addresses words c' u met.empty (after_slot u goes ∙ same (leads code addresses c.line line c) ∙ ap (λ (n : ℕ). world_at words c' n (add_of n 4) false) is)),
             ))
 
-        -- If a far branch is taken, the MIPS machine also executes the jump that it skips otherwise.
+        -- If a far branch is taken, the MIPS machine also executes the jump after it, which the inverse branch skips if the far branch is
+        -- not taken.
         round_slot : (condition : Condition) (label : ℕ) → line ≡ lines.Branch condition label → addresses (suc c.line) ≡ here + 12 → IsJumpAt words Plain nothing (from + 8) (addresses label)
             → headed code addresses c.line line c ≡ c → leads code addresses c.line line c ≡ here + 4 → May line (labelled.Running (record c { line = label })) → Stepped w
         round_slot condition label is_branch next jumps same goes_round may =
@@ -459,7 +461,8 @@ module _ (code : Labelled) (addresses : ℕ → ℕ) (words : List ℕ) (text : 
         (ap (λ b. labelled.Running (record c { line = cond b label (c.line + 1) })) (sym untaken)) small (goes_met false condition label mid.found)
         (ap (λ b. cond b (taken_to code addresses (is_near code.lines c.line label) c.line label) (addresses (suc c.line))) untaken ∙ ap addresses (sym same)) (λ n. refl)
 
-    -- A branch whose delay slot was executed is matched, in each case of near or far and taken or not.
+    -- The labelled machine's step of a branch is matched once the MIPS machine has executed the delay
+    -- slot, whether the branch is near or far, taken or not.
     branch_slotted : (near taken : Bool) (condition : Condition) (label : ℕ) → is_near code.lines c.line label ≡ near → holds_of (word_in c) condition ≡ taken
         → (i : Instr) (some : filling code.lines c.line ≡ Some i) (w : World) (mid : Between code addresses words c i (lines.Branch condition label) w)
         (never : (next : labelled.State) → labelled.Step code addresses (labelled.Running c) next → labelled.status_of next ≡ Failed → ⊥)

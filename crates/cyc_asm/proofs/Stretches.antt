@@ -44,7 +44,7 @@ stretch-append from (suc m) n =
     ∙ ap (λ (rest : List ℕ). from ∷ rest) (stretch-append (from + 4) m n)
     ∙ ap (λ (a : ℕ). from ∷ (stretch (from + 4) m ++ stretch a n)) (let e : from + 4 + 4 * m ≡ from + 4 * suc m = omega arith in e)
 
--- If the lines are partitioned in any way, the words that belong to the parts are together all words of the text.
+-- If the lines are partitioned in any way into groups, the words of all groups together are all words of the text.
 pub own-parts : (code : Labelled) (addresses : ℕ → ℕ) (words : List ℕ) → IsTextOf code addresses words → (some others : List ℕ)
     → some ++ others ≡ range_with_len 0 (length code.lines)
     → length (flat_map (own addresses) some) + length (flat_map (own addresses) others) ≡ length words

@@ -1,4 +1,4 @@
--- The layout tables that the code computes contain the values of their definitions.
+-- The tables of word counts and positions of lines that the assembler computes contain the values that the definitions of layout give.
 use Rattle.std.proofs.Common.{◌≡◌, ℕ, suc, ◌+◌, ◌≤◌, ◌<◌, List, [], ◌∷◌, ◌++◌, length, get_or, map, Bool, true, false, cond, ◌==◌, eq-eqb, ne_eqb, nat_le, None, Some, refl, sym, ap, subst, ◌∙◌, arith, inl, inr}
 use Rattle.std.specs.Prelude.{◌&&◌, All, slice_get}
 use Rattle.std.specs.List.{range_with_len}
@@ -41,7 +41,7 @@ position_up_to code positions number is within =
 pub position_at : (code : List Line) (positions : List ℕ) (number : ℕ) → positions ≡ position_of_each code → number < length code → get_or positions number 0 ≡ position code number
 position_at code positions number is below = position_up_to code positions number is (omega (arith, below))
 
--- All numbers in the layout tables are at most the number of words in the text range.
+-- All numbers in the tables of word counts and positions of lines are at most the number of words in the text range.
 
 pub most_before-low : (code : List Line) (number : ℕ) → Fits code → number ≤ length code → most_before code number ≤ TEXT_WORDS
 most_before-low code number fits within =
@@ -72,7 +72,7 @@ width_here code number d line below here = ap (width_in code number) (line_here 
 pub words_here : (code : List Line) (number : ℕ) (d line : Line) → number < length code → get_or code number d ≡ line → words_in code number (slice_get code number) ≡ words_of_line code number line
 words_here code number d line below here = ap (words_in code number) (line_here code number d line below here)
 
--- Loop invariant: the table of maximum word counts stays correct when it is extended by one more line.
+-- Loop invariant: the table of the most words before each line stays correct when it is extended by one more line.
 pub most_of_more : (code : List Line) (number : ℕ) (most : List ℕ) (before words : ℕ) (d : Line) → number < length code
     → most ≡ map (most_before code) (range_with_len 0 number) → before ≡ most_before code number → words ≡ words_of (get_or code number d)
     → (most ++ before ∷ [] ≡ map (most_before code) (range_with_len 0 (number + 1))) × (before + words ≡ most_before code (number + 1))
@@ -141,7 +141,7 @@ position_left_out code positions number is below = go (is_unreached code number)
         (λ same. omega (arith, same, here, next, position_by code number false reached, some))
         ∙ sym reached
 
--- Comparing the greatest positions in the table says correctly if a branch is near its label.
+-- A branch is near its label if the comparison of two entries in the table of maximum word counts says so, and it is far otherwise.
 pub near_here : (code : List Line) (most : List ℕ) (number label : ℕ) (near b : Bool) → most ≡ most_of_each code → number < length code → label < length code
     → near ≡ (nat_le (get_or most label 0) (get_or most number 0 + MAX_REACH) && nat_le (get_or most number 0) (get_or most label 0 + MAX_REACH)) → near ≡ b
     → is_near code number label ≡ b
@@ -177,7 +177,7 @@ pub tail_of_branch_here : (code : List Line) (number : ℕ) (d : Line) (conditio
 tail_of_branch_here code number d condition label b slot below here near =
     tail_here code number d (lines.Branch condition label) slot below here ∙ ap (λ b. slot ∷ round_words b code label) near
 
--- If a branch is near, its position and the table's position of its label are within the reach of an offset.
+-- If a branch is near, its position and the position of its label in the table of line positions are within the reach of a branch offset.
 pub reach_here : (code : List Line) (positions : List ℕ) (number label from : ℕ) (d : Line) (condition : Condition) → Fits code → positions ≡ position_of_each code → number < length code → label < length code
     → get_or code number d ≡ lines.Branch condition label → is_near code number label ≡ true → IsHeadPosition code number from
     → (from ≤ get_or positions label 0 + MAX_REACH) × (get_or positions label 0 ≤ from + MAX_REACH)
@@ -189,7 +189,7 @@ reach_here code positions number label from d condition fits is below is_label h
       | inr down ↦ let r = reach.above down in (omega (arith, there, r), omega (arith, there, down))
     ]
 
--- A near branch computed from the table has the offset that its definition requires.
+-- A near branch whose offset is computed from the table of line positions has the offset that its definition requires.
 pub near_branch_here : (code : List Line) (positions : List ℕ) (number from : ℕ) (d : Line) (condition : Condition) (label offset : ℕ) → positions ≡ position_of_each code
     → number < length code → label < length code → get_or code number d ≡ lines.Branch condition label → is_near code number label ≡ true
     → offset ≡ offset_of from (get_or positions label 0)
@@ -198,12 +198,12 @@ near_branch_here code positions number from d condition label offset is below is
     ap (branch_of condition) (by_table ∙ ap (offset_of from) (position_at code positions label is is_label))
     ∙ sym (head_of_branch_here code from number d condition label true below here near)
 
--- A jump computed from the table has the target that its definition requires.
+-- A jump whose target is computed from the table of line positions has the target that its definition requires.
 pub jump_here : (code : List Line) (positions : List ℕ) (op : JumpOp) (label : ℕ) → positions ≡ position_of_each code → label < length code
     → word_of (Jump op (jump_index_of (FIRST_INDEX + get_or positions label 0))) ≡ word_of (Jump op (jump_index_of (FIRST_INDEX + position code label)))
 jump_here code positions op label is is_label = ap (λ (n : ℕ). word_of (Jump op (jump_index_of (FIRST_INDEX + n)))) (position_at code positions label is is_label)
 
--- The table's position of a line is a possible position of the line's branch or jump.
+-- The position that the table gives for a line is a possible position of the line's branch or jump.
 
 pub head_at_line : (code : List Line) (positions : List ℕ) (number : ℕ) → positions ≡ position_of_each code → number < length code → IsHeadPosition code number (get_or positions number 0)
 head_at_line code positions number is below = let at = position_at code positions number is below in (omega (arith, at), omega (arith, at))

@@ -18,12 +18,12 @@ pub fn slots_are_empty()
     ensures { word_of nothing ≡ 0 }
 {}
 
-/// The order in which the assembler emits lines contains each line of the code once.
+/// The order in which the assembler emits lines contains each line of the labelled code exactly once.
 pub fn orders_have_each_line()
     ensures { (code : List Line) → IsPermutation code (arranged code) }
 {}
 
-/// If the lines of code are partitioned in any way, each word of the text belongs to exactly one part.
+/// If the lines of labelled code are partitioned in any way into groups, each word of the text belongs to exactly one group.
 pub fn words_are_shared_out()
     ensures { (code : Labelled) (addresses : ℕ → ℕ) (words : List ℕ) → IsTextOf code addresses words
         → (some others : List ℕ) → some ++ others ≡ range_with_len 0 (length code.lines)

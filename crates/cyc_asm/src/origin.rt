@@ -61,7 +61,8 @@ fn number_at(numbers: &[usize], number: usize) -> usize {
     numbers.get(number).copied().unwrap_or(0)
 }
 
-/// Appends, for each word of line `number` in the new order, which is reachable, the index of its source line.
+/// Appends, for each word of line `number` in the new order, which is reachable, the index of the line of
+/// labelled code from which the word is made.
 fn push_sources(
     sources: &mut Vec<usize>,
     numbers: &[usize],
@@ -78,7 +79,7 @@ fn push_sources(
 {
     let own = number_at(numbers, number);
     if is_ordinary(&order[number]) {
-        // The instruction in a delay slot owns the word after that of its branch or jump.
+        // An instruction that fills the delay slot of a branch or jump accounts for the word after that of the branch or jump.
         let first = match filling(order, named, number + 1) {
             Some(_) => number_at(numbers, number + 1),
             None => own,
@@ -97,7 +98,8 @@ fn push_sources(
     Ok(())
 }
 
-/// Returns the source lines of all words, for lines in the order of the text.
+/// Returns, for each assembled word, the index of the line of labelled code from which it is made.
+/// The lines are given in the order of the text.
 fn sources_in_order(
     alloc: Global,
     numbers: &[usize],
@@ -133,7 +135,7 @@ fn sources_of(alloc: Global, lines: &[Line]) -> Result<Vec<usize>, AllocError>
 /// Returns, for each word that `assemble` makes, the index of the line from which it comes. An empty delay slot, and the jump skipped
 /// by a far branch, come from the line of the branch or jump.
 ///
-/// The only error that `sources` returns is lack of memory.
+/// The function `sources`, which finds the lines from which assembled words are made, returns no error except lack of memory.
 pub fn sources(alloc: Global, code: &Code) -> Result<Vec<usize>, Fault> {
     Ok(sources_of(alloc, code.lines())?)
 }

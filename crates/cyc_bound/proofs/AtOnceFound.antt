@@ -25,7 +25,7 @@ use Rattle.cyc_bound.specs.inside.Reached.{AreReached}
 
 -- ---- lists
 
--- says that the greater of the cost found so far and that of a block's elements from index i on is the cost of the block
+-- says that a block's cost is the greater of the cost found so far and the cost of the block's elements from index i on
 abbrev pub ItemsLeft : Measure → (costs : List ℕ) → List ItemCode → (i most : ℕ) → Type 0
 ItemsLeft m costs js i most = (min too_many (max most (items_at_once m costs (items_of (drop i js)))) ≡ min too_many (items_at_once m costs (items_of js))) × (most ≤ too_many)
 

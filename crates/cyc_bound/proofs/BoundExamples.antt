@@ -43,7 +43,7 @@ middle_height = so_far_all chain 1 (2 ∷ []) 1 2 refl (omega arith) (so_far_mor
 chain_bound : IsBound chain 3
 chain_bound = so_far_all chain 0 (1 ∷ []) 1 3 refl (omega arith) (so_far_more chain 0 (1 ∷ []) 0 1 1 2 refl (so_far_none chain 0 (1 ∷ [])) (omega arith) refl middle_height (omega arith))
 
--- example: the run of the call chain has as many active calls as the bound states
+-- example: in the run of a program with a chain of calls, as many calls are active as the bound states
 chain_reaches : depth (run chain [] 14) ≡ 3
 chain_reaches = refl
 

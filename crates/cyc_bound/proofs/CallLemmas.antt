@@ -1,4 +1,4 @@
--- Lemmas about chains of calls and about lists of callees.
+-- Lemmas about chains of calls (each function calls the next one) and about lists of the functions that a function calls.
 use Rattle.std.proofs.Common.{◌≡◌, ℕ, suc, ◌≤◌, List, [], ◌∷◌, Option, Some, subst, sym, arith}
 use Rattle.std.specs.Prelude.{slice_get, Contains}
 use Rattle.cyc_words.proofs.Members.{all_from_members}
@@ -37,7 +37,7 @@ module _ (program : Program) where
 
 -- ---- callees of a function
 
--- a function calls exactly the callees that its body mentions
+-- a function calls exactly the functions in the list of callees that is computed from the calls in its body
 pub body_is_of : (program : Program) (function : ℕ) (h : Function) → slice_get program.functions function ≡ Some h → AreOf program function (items_callees h.body)
 body_is_of program function h there =
     all_from_members (λ (callee : ℕ). Calls program function callee) (items_callees h.body) (λ callee k. subst (λ (o : Option Function). Contains (callees_of o) callee) (sym there) k)

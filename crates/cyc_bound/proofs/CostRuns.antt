@@ -18,7 +18,7 @@ use Rattle.cyc_bound.proofs.CostWorlds.{all_counts}
 use Rattle.cyc_bound.proofs.CostSteps.{step_costs}
 
 module _ (program : Program) (m : Measure) where
-  -- at the start of a run, the globals have used no resources besides the heap
+  -- at the start of a run, the objects of the globals count as no used resources
   globals_spent : (globals : List GlobalVariable) → objects_spent m (map global_object globals) ≡ 0
   globals_spent [] = refl
   globals_spent (g ∷ globals) = omega (arith, globals_spent globals)

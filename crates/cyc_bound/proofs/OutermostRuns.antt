@@ -187,7 +187,8 @@ IsRegional measures.RegionBlocks = Unit {0}
 IsRegional measures.RegionWords = Unit {0}
 IsRegional m = ⊥
 
--- the facts about a measure that follow from the costs of functions and of outermost regions
+-- the facts about a measure (a kind of counted cost) that follow from the costs of functions and from the greatest cost of an outermost
+-- region
 pub record Facts (program : Program) (m : Measure) (costs : List ℕ) (most : ℕ) : Type 0 where
   pub closed : IsClosed program m costs
   pub few : most < too_many
@@ -199,9 +200,9 @@ module _ (program : Program) (lasting : List ℕ) (tables : Measure → List ℕ
   abbrev AreOutside : List Entry → Type 0
   AreOutside stack = (m : Measure) → IsRegional m → AreKept false m (tables m) (cost m) stack
 
-  -- Either no lexical region is open, or all open lexical regions have numbers from some number on. If some are open, the stack entries
-  -- above some point belong to the open lexical regions. The used and remaining costs of these entries are at most the cost of the
-  -- outermost region.
+  -- Either no lexical region is open, or all open lexical regions have numbers from some number on. If some are open, the newest stack
+  -- entries are those inside the present outermost region, and all older entries are outside of it. The cost used since that region's
+  -- opening plus the remaining cost of focus and newest entries is at most the cost stated for outermost regions.
   pub data Split (focus : Focus) (w : World) : List Entry → Type 0 where
     Outside : (stack : List Entry) → AreOutside stack → Split focus w stack
     Inside : (from : ℕ) (entry : Entry) (rest below : List Entry) → AreOutside below → IsFrom (suc from) w.regions

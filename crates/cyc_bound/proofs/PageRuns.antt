@@ -398,7 +398,7 @@ module _ (program : Program) (cost : Measure → ℕ) (input : List ℕ) where
     abbrev lasting : List ℕ
     lasting = are.0.0
 
-    -- a run creates nothing that may outlast regions, if the cost of lasting things is 0
+    -- if the cost counted for handles of the heap used as values and for dynamic regions is 0, no run creates such a handle or region
     free : (n : ℕ) → CostsAtMost measures.Lasting lasting 0 (run program input n)
     free n =
         let none : run_cost program measures.Lasting lasting ≡ 0 = sym are.0.2 in

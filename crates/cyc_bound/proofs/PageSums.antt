@@ -16,7 +16,7 @@ use Rattle.cyc_bound.specs.inside.RegionCosts.{IsAtOnceFound, AreRegionsCounted,
 use Rattle.cyc_bound.specs.inside.Rounds.{IsFound}
 
 module _ (program : Program) where
-  -- if the search returns a cost, this is the cost of a run
+  -- if the search for the cost of a run returns a number, this number is the cost of a run
   pub found : (m : Measure) (o : Option ℕ) (cost : ℕ) → o ≡ Some cost → IsFound program m o → IsRunCost program m cost
   found m o cost is h = subst (λ (n : Option ℕ). IsFound program m n) is h
 
@@ -27,7 +27,8 @@ module _ (program : Program) where
   not_found_at_once m None other h = h
   not_found_at_once m (Some cost) other h = absurd (other cost refl)
 
-  -- the cost of things that may outlast regions decides if lexical regions free everything that is allocated by a handle
+  -- lexical regions free everything allocated by a handle exactly if the cost is 0 that is counted for things that may
+  -- outlast lexical regions
   pub gives_by : (cost : ℕ) (o : Option ℕ) → o ≡ Some cost → IsFound program measures.Lasting o → GivesBack program (cost == 0)
   gives_by cost o is h = go (cases_eq cost 0)
     where

@@ -1,4 +1,5 @@
--- Lemmas for the search over calls: paths and cycles, chains of calls that are joined, and heights of functions.
+-- Lemmas for the search over calls: paths and cycles of calls, joined chains of calls, and heights of functions
+-- (lengths of their longest chains of calls).
 use Rattle.std.proofs.Common.{◌≡◌, ℕ, zero, suc, ◌+◌, ◌<◌, ◌≤◌, max, List, [], ◌∷◌, ◌++◌, length, get_or, set, drop, subst, sym, ap, ◌∙◌, inl, inr, arith}
 use Rattle.std.specs.Prelude.{slice_get, Contains}
 use Rattle.std.proofs.lemmas.Bool.{cases_eq, cases_lt}
@@ -88,7 +89,7 @@ module _ (program : Program) where
           let same : next ≡ get_or callees k 0 = sym at ∙ get_or_default callees k next 0 less in
           omega (arith, h.above k (omega (arith, less, whole)) l n (subst (λ (g : ℕ). Row program g l n) same row))
 
-  -- storing the height of a function keeps the table of heights correct
+  -- storing the height of a function (the length of its longest chain of calls) keeps the table of heights correct
   pub heights_more : (heights : List ℕ) (f height : ℕ) → AreHeights program heights → IsHeight program f height → height ≤ most_calls → AreHeights program (set heights f height)
   heights_more heights f height are is few g above = elim (cases_eq g f) [
     | inl same ↦ elim (cases_lt f (length heights)) [

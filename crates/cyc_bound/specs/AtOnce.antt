@@ -19,8 +19,8 @@ abbrev mutual
   statement_at_once m costs (Try s cs) = max (statement_at_once m costs s) (clauses_at_once m costs cs)
   statement_at_once m costs s = 0
 
-  -- the cost of the costliest outermost region of a block's declarations and statements; a region
-  -- is open to the end of its block, so the rest of the block counts
+  -- the cost of the costliest outermost region of a block's declarations and statements; a region is open to the end of its block, so the
+  -- rest of the block counts
   pub items_at_once : Measure → (costs : List ℕ) → Items → ℕ
   items_at_once m costs NoItems = 0
   items_at_once m costs (MoreItems (Execute s) js) = max (statement_at_once m costs s) (items_at_once m costs js)

@@ -49,8 +49,9 @@ abbrev pub IsCycle : Program → List ℕ → Type 0
 IsCycle program [] = ⊥
 IsCycle program (f ∷ functions) = LeadTo program (f ∷ functions) f × ((count : ℕ) × Row program program.main f count)
 
--- The result for a function reachable from `main`. The result is the function's height, if the height is at most the greatest reported
--- bound. If the height exceeds that bound or does not exist, the result is a cycle, or a chain with more functions than that bound.
+-- The result of the search for a function reachable from `main`. The result is the function's height (the length of its longest chain
+-- of calls), if the height is at most the greatest reported bound. Otherwise the result is a cycle of calls, or a chain of calls with
+-- more functions than that bound.
 abbrev pub IsAnswer : Program → (function : ℕ) → CallBound → Type 0
 IsAnswer program function (bounds.Calls count) = IsHeight program function count × (count ≤ most_calls)
 IsAnswer program function (bounds.Cycle functions) = IsCycle program functions.items

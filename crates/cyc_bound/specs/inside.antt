@@ -1,6 +1,6 @@
 -- an invariant about the active calls of a state
 pub mod UnderWay
--- the functions called in single elements of lists, and the contract of the search over chains of calls
+-- the functions called in single elements of lists in typed trees (such as statements), and the contract of the search over chains of calls
 pub mod Parts
 pub mod Walk
 -- the remaining cost of a run in each of its states

@@ -18,13 +18,13 @@ pub const MOST_CALLS: usize = 4095;
 pub enum CallBound {
     /// At most `count` calls are active, including the call of `main`. The program text implies no smaller bound.
     Calls { count: usize },
-    /// No bound exists, because each of these functions calls the next, and the last one calls the first.
+    /// No bound on the active calls exists, because each of these functions calls the next, and the last one calls the first.
     Cycle { functions: Vec<usize> },
-    /// No bound is given, because a chain of calls has more than `MOST_CALLS` functions.
+    /// No bound on the active calls is reported, because a chain of calls has more than `MOST_CALLS` functions.
     Deep,
 }
 
-/// Returns the known height of a function, or 0 if it is not known yet.
+/// Returns the height of a function (the length of its longest chain of calls), or 0 if the search has not found it yet.
 fn known_height(heights: &[usize], function: usize) -> usize
     ensures { result ≡ get_or heights.now function 0 }
 {
@@ -34,7 +34,7 @@ fn known_height(heights: &[usize], function: usize) -> usize
     }
 }
 
-/// Stores the height of a function in the table.
+/// Stores the height of a function (the length of its longest chain of calls) in the table.
 fn note_height(heights: &mut Vec<usize>, function: usize, height: usize)
     ensures { heights.new.items ≡ set heights.old.items function height }
 {
@@ -56,7 +56,7 @@ fn place_on(path: &[usize], function: usize) -> Option<usize>
 }
 
 /// Returns the length of the longest chain of calls from a function; `path` is a chain of calls from `main` to the function. The path is
-/// restored if a height was found.
+/// restored if the length was found.
 fn bound_from(
     alloc: Global,
     tree: &TypedTree,

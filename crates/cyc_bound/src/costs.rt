@@ -110,7 +110,7 @@ pub(crate) fn loop_cost(turn: u64) -> u64
     if turn == 0 { 0 } else { TOO_MANY }
 }
 
-/// Returns the known cost of a function, or 0 if the function does not exist.
+/// Returns the cost of a function from the table of costs, or 0 if the function does not exist.
 pub(crate) fn known_cost(costs: &[u64], function: usize) -> u64
     ensures { result ≡ get_or costs.now function 0 }
 {

@@ -91,7 +91,8 @@ fn costly_callee(
     Ok(None)
 }
 
-/// Returns the first loop that costs something in a function, or else in one of its callees, and so on.
+/// Returns the first loop that costs something in a function. If the function has no such loop, its
+/// callees are searched, then their callees, and so on.
 fn loop_from(
     alloc: Global,
     tree: &TypedTree,

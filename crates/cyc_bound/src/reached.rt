@@ -26,7 +26,7 @@ fn mark(marks: &mut Vec<bool>, function: usize)
     }
 }
 
-/// Adds a function to the list of those found, unless it is already marked.
+/// Adds a function to the list of functions found, unless the function is already marked as found.
 fn note(function: usize, marks: &mut Vec<bool>, found: &mut Vec<usize>) -> Result<(), AllocError>
     requires { AreMarked marks.old.items found.old.items }
     ensures { OnOk result (IsNoted found.old.items function marks.new.items found.new.items) }

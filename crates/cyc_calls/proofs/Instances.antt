@@ -37,7 +37,8 @@ noted_length table ((Variable n, r) ∷ ps) = noted_length (noted_at (slice_get 
 noted_length table ((Heap, r) ∷ ps) = noted_length table ps
 noted_length table ((Unique, r) ∷ ps) = noted_length table ps
 
--- Refilling a recorded table from the original one does not change the recorded table.
+-- Replacing a table's elements, from the first on, by those of the table with further recorded regions yields the latter table, since both
+-- have equal length.
 pub noted_whole : (table : List (Option Region)) (ps : List (Region × Region)) → refill (length table) table (noted_places table ps) ≡ noted_places table ps
 noted_whole table ps =
     let long : length (noted_places table ps) ≡ length table = noted_length table ps in
@@ -51,7 +52,8 @@ instance_at [] n o d h = absurd (cc)
 instance_at (x ∷ xs) zero o d h = ap (λ y. unwrap_or y Heap) (same_Some x o h)
 instance_at (x ∷ xs) (suc n) o d h = instance_at xs n o d h
 
--- Appending some of the remaining variables without a recorded region extends the table by empty entries.
+-- If up to 64 of the remaining region variables, none with a recorded region, are appended to the table,
+-- the table still has only empty entries.
 pub unplaced_more : (count left next : ℕ) (old new : List (Option Region)) → next ≤ 64 → next ≤ left → left ≤ count
     → old ≡ replicate (count - left) None → new ≡ old ++ take next (replicate 64 None) → new ≡ replicate (count - (left - next)) None
 unplaced_more count left next old new few within most filled added =
@@ -239,7 +241,8 @@ noted_place-swap table p q h =
     noted_from-place (noted_place table p) q ∙ ap (λ t. noted_from t 0 q) (noted_from-place table p) ∙ noted_from-swap table 0 p q h
     ∙ sym (noted_from-place (noted_place table q) p ∙ ap (λ t. noted_from t 0 p) (noted_from-place table q))
 
--- If two occurrences of one variable both agree with the regions of the table, then their regions are equal.
+-- If the regions at two occurrences of one region variable both agree with the table of the variables'
+-- regions at the call, then these regions are equal.
 stand_alike : (m : List Region) (p q : Region × Region) (k : ℕ) → region_eq p.1 (substituted_region m p.0) ≡ true → region_eq q.1 (substituted_region m q.0) ≡ true
     → region_eq p.0 (Variable k) ≡ true → region_eq q.0 (Variable k) ≡ true → p.1 ≡ q.1
 stand_alike m p q k h i f g =

@@ -103,7 +103,7 @@ varies = record {
 
 -- ---- the source and target types of each value
 
--- If there are as many values as types, then all values get their types and are passed.
+-- If there are as many values as types, then setting the type of each value's conversion yields the arguments that the typing rules pass.
 pub passed_all : (cs : List ConvertedCode) (ts : List TyCode) → length (map value_in cs) ≡ length (map view_ty ts) → arguments_of (all_with_kinds cs ts) ≡ passed (map value_in cs) (map view_ty ts)
 passed_all [] ts h = refl
 passed_all (c ∷ cs) [] h = absurd (omega (arith, h))

@@ -33,7 +33,8 @@ use cyc_words::{Code, Span};
 use smallvec::SmallVec;
 use std::alloc::{AllocError, Global};
 
-/// Checks that constraints hold at a source position, given the table of regions of the call.
+/// Checks that the constraints of a signature (one region outlives another) hold at a source position, given the table of regions of the
+/// call.
 fn demand_constraints(
     so_far: &mut Settled,
     scope: &Scope<'_>,
@@ -219,7 +220,7 @@ fn call(
     )
 }
 
-/// Returns the node of a call whose function has the given parameters, with each value converted to the type at its index.
+/// Returns the tree node of a call of a function with the given parameters, with each value converted to the type at its index.
 #[inline(never)]
 pub(crate) fn call_with(
     alloc: Global,
@@ -237,7 +238,7 @@ pub(crate) fn call_with(
     call(alloc, span, callee, arguments, returned)
 }
 
-/// Returns the node of a call of a function with the given signature.
+/// Returns the tree node of a call of a function with the given signature.
 #[inline(never)]
 fn called_by(
     scope: &Scope<'_>,
@@ -263,7 +264,7 @@ fn called_by(
     )
 }
 
-/// Returns the node of a call of a name with the given values, which are the values of the given expressions.
+/// Returns the tree node of a call of the function with the given name. The given values are the values of the given argument expressions.
 #[inline(never)]
 pub fn called(
     scope: &Scope<'_>,

@@ -72,9 +72,9 @@ pub(crate) fn same_mark(a: PointerKind, b: PointerKind) -> bool
     }
 }
 
-/// Returns true if a type equals a parameter's type at the call in all parts. The region of a pointer is recorded before those of its
-/// target, so the check of a pointer needs no stack frame of its own. In the order of the rules, the pointer's region comes after those of
-/// the target, which is equivalent if all regions fit.
+/// Returns true if a type equals a parameter's type at the call, including all its regions and target types. The region of a pointer is
+/// recorded before those of its target, so the check of a pointer needs no stack frame of its own. In the order of the rules, the
+/// pointer's region comes after those of the target, which is equivalent if all regions fit.
 #[tactic(auto, using(crate::proofs::FittedValues::fits_handle, crate::proofs::FittedValues::fits_key))]
 fn fits_type(table: &mut [Option<Region>], wanted: &Ty, of_type: &Ty) -> bool
     ensures { IsTrue result → FitsType table.old table.new (view_ty wanted.now) (view_ty of_type.now) }

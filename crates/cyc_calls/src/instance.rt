@@ -113,7 +113,8 @@ fn note_arguments(table: &mut [Option<Region>], parameters: &[Ty], values: &[Con
     }
 }
 
-/// Region variables without a recorded region: the code copies a table from this constant instead of building it one by one.
+/// Table elements for region variables without a recorded region. The code copies a table from this constant instead of
+/// building the table element by element.
 const UNPLACED: [Option<Region>; 64] = [None; 64];
 
 /// Returns a table of `count` variables without recorded regions.

@@ -181,7 +181,7 @@ fn shared(of_type: &Option<Ty>) -> Result<Option<Ty>, AllocError>
     }
 }
 
-/// Returns the node of a call without a fault, of a function with a plain signature (each region of its parameters occurs only once).
+/// Returns the tree node of a call without a fault, of a function with a plain signature (each region of its parameters occurs only once).
 #[inline(never)]
 pub(crate) fn taken(
     scope: &Scope<'_>,

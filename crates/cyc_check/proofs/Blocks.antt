@@ -1,4 +1,4 @@
--- How the code checks the declarations and statements of a block, and the scope after them.
+-- This file is about the code that checks the declarations and statements of a block, and about the scope (visible names) after them.
 use Rattle.std.proofs.Common.{◌≡◌, ℕ, suc, ◌+◌, List, [], ◌∷◌, ◌++◌, Some, None, Ok, refl, sym, ap, subst, ◌∙◌, arith}
 use Rattle.std.proofs.lemmas.List.{append_assoc}
 use Rattle.cyc_syntax.specs.Symbols.{Place}
@@ -23,7 +23,8 @@ use Rattle.cyc_check.specs.inside.Inside.{Inside}
 use Rattle.cyc_check.proofs.Inside.{inside_itself, inside_through, inside_local, inside_opened, inside_region, inside_key, inside_after, inside_block, inside_labelled, numbered_as, left_numbered}
 use Rattle.cyc_expressions.proofs.Loops.{onto, with_front, regroup, onto_nothing}
 
--- `Walked` relates the typed trees of the declarations and statements checked so far, and the current scope, to the typing rules.
+-- `Walked` says that the typing rules have the same result from two points: for the whole block from its first scope, and for its
+-- unchecked rest from the current scope.
 pub record Walked (start now : Scope) (made : List ItemCode) (rest whole : Items) : Type 0 where
   pub gives : with_front view_item typed.MoreItems made (run (rule_items now rest)) ≡ run (rule_items start whole)
   pub inside : Inside start now
@@ -47,7 +48,8 @@ inside_item n (Alias r w x y) j =
 inside_item n (DynamicRegion r k) j =
     inside_through n (with_region r n) (following_item n (DynamicRegion r k) j) (inside_region r n) (inside_local Ordinary k (Key (regions.Variable n.next_region)) (with_region r n))
 
--- After a declaration or statement of a block is checked, the next free index of locals has grown by the number of its locals.
+-- After a declaration or statement of a block is checked, the index for the next declared local has grown by the number of
+-- locals declared in it.
 local_item : (n : Scope) (i : Item) (j : typed.Item) → (following_item n i j).next_local ≡ n.next_local + one_item_locals i
 local_item n (Execute s) j = refl
 local_item n (Local w x v) j = omega arith

@@ -1,4 +1,4 @@
--- The result of the typing rules for a `catch` follows from the results for its parts.
+-- The result of the typing rules for a `catch` follows from the results for its clauses and for the statements of its default clause.
 use Rattle.std.proofs.Common.{◌≡◌, List, [], Option, Some, None, Ok, sym, ap, ◌∙◌}
 use Rattle.std.specs.declared.vec.Vec.{Vec}
 use Rattle.std.specs.declared.alloc.Global.{Global}
@@ -28,7 +28,7 @@ try_stops (stops.Refused f) g h p t cs b body same caught =
     ap (λ o. and_then o (λ x. and_then (run (rule_clauses (following g t) [] cs)) (λ es. Ok (typed.Try x es)))) body
     ∙ ap (λ o. and_then o (λ es. Ok (typed.Try b es))) (sym (ap (λ (x : Scope). run (rule_clauses x [] cs)) same) ∙ caught)
 
--- If the clauses of a `catch` have a fault, the `catch` has this fault, with a default clause or without one.
+-- If the clauses of a `catch` violate a typing rule, the `catch` has the fault of these clauses, with a default clause or without one.
 pub clauses_stop_before : (e : Stop) (h : Scope) (cs : List Clause) (o : Option (Vec Item Global)) → Stops e (run (rule_clauses h [] (clauses_of cs NoClauses))) → Stops e (run (rule_clauses h [] (clauses_of cs (default_of o))))
 clauses_stop_before e h cs None stop = stop
 clauses_stop_before e h cs (Some is) stop = clauses_stop e h cs (items_of is.items) stop

@@ -29,7 +29,8 @@ abbrev put_after : typed.Clauses → typed.Clauses → typed.Clauses
 put_after (typed.Case n v r js cs) ds = typed.Case n v r js ds
 put_after cs ds = ds
 
--- Returns the result for a list of catch clauses from the parts of the first one and the result for the following ones.
+-- Returns the result for a list of catch clauses, given three results: the exception and the body of the first clause,
+-- and the clauses after it.
 abbrev assembled : Checked ℕ → Checked typed.Items → Option ℕ → ℕ → Checked typed.Clauses → Checked typed.Clauses
 assembled a b v r rest = and_then a (λ n. and_then b (λ js. and_then rest (λ ds. Ok (typed.Case n v r js ds))))
 
@@ -60,8 +61,8 @@ regrouped_clauses : (made : List ClauseCode) (c : ClauseCode) (checked : Checked
 regrouped_clauses made c (Ok ds) = ap Ok (sym (clauses-append made c ds))
 regrouped_clauses made c (Err f) = refl
 
--- `CaughtSoFar` relates the catch clauses checked so far and the current scope to the typing rules. A catch clause changes only three parts
--- of the scope: the next indices of locals and of regions, and the region names declared so far.
+-- `CaughtSoFar` says that the catch clauses checked so far, with the rules' result for the remaining ones, are the rules' result for all. A
+-- catch clause changes only three parts of the scope: the next indices of locals and of regions, and the region names declared so far.
 pub record CaughtSoFar (start now : Scope) (before : List ℕ) (made : List ClauseCode) (rest whole : Clauses) : Type 0 where
   pub gives : after_made made (run (rule_clauses now before rest)) ≡ run (rule_clauses start [] whole)
   pub same : now ≡ numbered_as start now

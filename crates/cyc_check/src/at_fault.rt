@@ -98,7 +98,8 @@ pub fn value_type(
     }
 }
 
-/// Returns the type of the value stored where an assignable expression (lvalue) refers to, or `None` if the expression is rejected.
+/// Returns the type of the value stored in the memory location that an assignable expression (lvalue) denotes, or `None` if the
+/// expression is rejected.
 pub fn place_type(scope: &mut Scope<'_>, expression: &Expr) -> Option<Ty> {
     match check_place(scope, expression, span_of(expression)) {
         Ok(found) => type_of_side(&found.side).share().ok(),

@@ -49,7 +49,7 @@ fn function_with(
     })
 }
 
-/// A checked function, and the tables for checking the next one.
+/// A function that the checker has accepted, and the tables of names and locals, which are reused for the check of the next function.
 #[derive(Drop)]
 struct Checked {
     function: typed::Function,

@@ -144,7 +144,7 @@ fn check_labelled(
     block_of(scope.alloc(), region, items)
 }
 
-/// Checks the declarations and statements of a block. The scope of the block stays open.
+/// Checks the declarations and statements of a block. The names that they declare stay in scope afterwards.
 #[cycle(statement)]
 pub(crate) fn check_items(scope: &mut Scope<'_>, items: &[Item]) -> Result<Vec<typed::Item>, Stop>
     ensures gives { Gives (λ v. typed_view.items_of v.items) result (run (rule_items scope.old (items_of items.now))) }

@@ -1,4 +1,4 @@
--- The request that a command line makes follows from the results of the command-line parser.
+-- Lemmas: the values that the command-line parser returns determine the request that a command line makes.
 use Rattle.std.proofs.Common.{◌≡◌, ℕ, Bool, List, Option, None, Some, Result, Ok, Err, codes, sym, subst, ◌∙◌}
 use Rattle.std.specs.Prelude.{Box, IfOk, IfSome, option_map}
 use Rattle.std.specs.Box.{box_value}
@@ -79,7 +79,7 @@ by_rows name f (Format source output check) (named, s, o, c) = (
 )
 by_rows name f (Pack text) (named, t) = (named, sym (first_value-rows f (codes "text")) ∙ t)
 
--- The subcommand that the command-line parser entered, with its name and its rows of option values.
+-- The subcommand that the command-line parser recognized: its name, and its table of option values.
 entered : {Z : Type 0} (o : Option (Box SubCommand Z)) (name : Text) (rows : List Row)
     → option_map (λ b. (out-SubCommand (box_value b)).name.now) o ≡ Some name → option_map (λ p. p.1) (subcommand_rows o) ≡ Some rows → subcommand_rows o ≡ Some (name, rows)
 entered None name rows named has = cc

@@ -100,7 +100,7 @@ pub enum Ending {
     Calls(u32),
     /// The run required more pages of the store than this limit allows.
     Pages(u32),
-    /// The machine refused the instruction at this address.
+    /// The machine refused to execute the instruction at this address, so the run ended.
     Trap(u32),
     /// The run required more instructions than its instruction budget.
     Spent(u64),

@@ -92,7 +92,7 @@ pub enum Request<'a> {
     },
 }
 
-/// The greatest instruction budget of a run.
+/// The greatest instruction budget that a command line may give for a run.
 pub const MOST_STEPS: u64 = 1_000_000_000_000;
 
 /// Returns the words of the command line that are to be parsed. The function replaces help on the command `help` by the help of
@@ -197,7 +197,7 @@ fn is_given<'a>(matches: &ArgMatches<'a>, option: &str) -> bool
     }
 }
 
-/// Returns the limits that the command line gives.
+/// Returns the limits on pages and calls that the command line gives.
 fn limits_of<'a>(
     alloc: Global,
     command: &mut Command<'a>,
@@ -210,7 +210,7 @@ fn limits_of<'a>(
     Ok(GivenLimits { pages, calls })
 }
 
-/// Returns the caps on limits that the command line gives.
+/// Returns the caps (upper bounds) on the limits of pages and calls that the command line gives.
 fn caps_of<'a>(
     alloc: Global,
     command: &mut Command<'a>,
@@ -237,7 +237,7 @@ fn caps_of<'a>(
     Ok(GivenLimits { pages, calls })
 }
 
-/// Returns true if the image should contain the program's own bounds: in this case no limit may be given by number.
+/// Returns true if the image should contain the limits computed from the program itself: in this case no limit may be given by number.
 fn take_auto<'a>(
     command: &mut Command<'a>,
     matches: &ArgMatches<'a>,
@@ -279,7 +279,7 @@ fn compile_request<'a>(
     })
 }
 
-/// Returns the instruction budget that the command line gives.
+/// Returns the instruction budget (the greatest number of instructions of a run) that the command line gives.
 fn budget_of<'a>(
     alloc: Global,
     command: &mut Command<'a>,
@@ -426,7 +426,7 @@ fn request_of<'a>(
             let text = file_of(command, matches, "text")?;
             Ok(Request::Pack { text })
         }
-        // The command-line parser accepts no other command.
+        // The command-line parser accepts no command other than those handled above.
         _ => Err(command.error(ErrorKind::InvalidSubcommand, "there is no such command")?),
     }
 }

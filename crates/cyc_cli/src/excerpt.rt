@@ -7,7 +7,7 @@ ghost use Rattle.cyc_cli.specs.inside.Excerpt.{shown_byte, shown_bytes, shown_ch
 
 use std::{fmt, str};
 
-// Returns the n-th piece, counted from 0, of the text split at its line feeds.
+// Returns line n, counted from 0, of the text split at its line feeds.
 fn piece(text: &[u8], n: usize) -> Option<&[u8]>
     ensures { option_map (λ s. s.now) result ≡ slice_get (lines_of text.now) n }
 {

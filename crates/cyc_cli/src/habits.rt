@@ -1,5 +1,6 @@
-//! In each row of a table of habits (usual mistakes), the first group of words precedes the position of the fault, and the second
-//! begins there. The third group of words in a row names a token that fits at the position of the fault.
+//! This file finds usual mistakes of programmers (habits) at a fault. In each row of a table of habits, the first group of words
+//! precedes the position of the fault, and the second begins there. The third group of words names a token that the parser would
+//! accept at the position of the fault.
 use crate::advice::hint;
 use crate::excerpt::line_at;
 use cyc_words::Code;
@@ -260,11 +261,11 @@ struct Place<'a> {
     before: &'a [u8],
     /// The text from the position on.
     at: &'a [u8],
-    /// The tokens that could be at the position.
+    /// The tokens that the parser would have accepted at the position of the fault.
     expected: &'a [u8],
 }
 
-/// Returns true if a byte at the edge of a word and its neighbour belong to one name.
+/// Returns true if a byte at the edge of a searched word and the byte next to it in the text could be part of one longer name.
 fn is_joined(edge: Option<&u8>, beside: Option<&u8>) -> bool {
     match (edge, beside) {
         (Some(edge), Some(beside)) => {
@@ -434,7 +435,7 @@ fn is_expected(expected: &[u8], words: &str) -> bool {
 
 // ---- the table of habits
 
-/// Returns the lines of the habits, that is, of usual mistakes, that may cause a fault with this code.
+/// Returns the lines of the table of habits (usual mistakes of programmers) that may explain a fault with this code.
 fn habits_of(code: Code) -> &'static str {
     match code {
         Code::UnknownByte => UNKNOWN_BYTE,
@@ -446,7 +447,7 @@ fn habits_of(code: Code) -> &'static str {
     }
 }
 
-/// Returns the advice on a habit (a usual mistake), if the text at a position shows it.
+/// Returns the advice on a habit (a usual mistake of programmers), if the text around a position shows this habit.
 fn advice_of(habit: &'static str, place: Place<'_>) -> Option<&'static str> {
     let (ends, rest) = habit.split_once(" ~~ ")?;
     let (beginnings, rest) = rest.split_once(" ~~ ")?;

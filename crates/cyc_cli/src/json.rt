@@ -111,7 +111,7 @@ pub struct Edit<'a> {
     pub text: &'a str,
 }
 
-/// An edit as JSON, or `null`.
+/// The JSON object for an edit that repairs the fault, or `null` if there is none.
 #[derive(Drop)]
 struct EditOrNull<'a>(&'a Option<Edit<'a>>);
 
@@ -126,7 +126,7 @@ impl fmt::Display for EditOrNull<'_> {
     }
 }
 
-/// Another source position that belongs to a fault, and the text about it.
+/// A source position related to a fault, other than the fault's own position, and the message about it.
 #[derive(Drop)]
 pub struct Related<'a> {
     pub range: Range,
@@ -141,7 +141,7 @@ impl fmt::Display for Related<'_> {
     }
 }
 
-/// A JSON array with the other source position that belongs to a fault, if there is one.
+/// A JSON array that contains the source position related to a fault, or nothing if there is none.
 #[derive(Drop)]
 struct RelatedList<'a>(&'a Option<Related<'a>>);
 
@@ -174,11 +174,11 @@ impl fmt::Display for CodeOrNull {
 /// A fault or a warning. `Display` writes it as a JSON object on one line.
 #[derive(Drop)]
 pub struct Entry<'a> {
-    /// The kind of a JSON entry: `refusal` or `warning`.
+    /// The kind of a reported JSON object: `refusal` (a fault) or `warning`.
     pub kind: &'a str,
-    /// The name of the violated rule, or of the warning.
+    /// The name of the rule that the text violates or, for a warning, the name of the warning.
     pub rule: &'a str,
-    /// The number of the fault's code, if the entry is a fault.
+    /// The number of the fault's code, if the reported object is a fault and not a warning.
     pub code: Option<u32>,
     /// True for the first fault of the text, which is the fault that is proved correct.
     pub is_first: bool,

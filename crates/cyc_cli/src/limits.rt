@@ -1,4 +1,4 @@
-//! This file defines the limits that a command line gives, and their effect.
+//! This file defines the limits on pages and calls that a command line gives, and their effect.
 
 ghost use Rattle.std.specs.Prelude.{◌≡◌, IfSome};
 ghost use Rattle.cyc_machine_model.specs.Bounds.{AreAllowed};
@@ -8,10 +8,10 @@ use cyc_machine::Limits;
 use cyc_machine::constants::{MAX_CALLS, MAX_PAGES, MIN_CALLS, MIN_PAGES};
 use std::marker::Model;
 
-/// The number of pages of a run for which no limit is given.
+/// The number of heap pages that a run may use if no limit is given.
 pub const DEFAULT_PAGES: u32 = 1024;
 
-/// The limit of calls for a run if no limits are given.
+/// The number of calls that may be active at once in a run if no limit is given.
 pub const DEFAULT_CALLS: u32 = 4096;
 
 /// The limits on pages and calls as a command line gives them: each limit is in its range, or is omitted.
@@ -34,7 +34,7 @@ impl Model for GivenLimits {
     ghost inverse = { λ g. record { pages = g.pages; calls = g.calls } };
 }
 
-/// Returns a number, or the cap if a cap is given and the number is above it.
+/// Returns a number, or the given upper bound (cap) if there is one and the number is above it.
 fn capped(number: u32, cap: Option<u32>) -> u32
     ensures { result ≡ capped cap number }
 {
@@ -60,8 +60,8 @@ impl GivenLimits {
         }
     }
 
-    /// Returns the limits that are stored in a compiled image: both limits, with the default for a limit that is not given, or none if
-    /// no limit is given.
+    /// Returns the limits on pages and calls that are stored in a compiled image: none if no limit is given, otherwise both, with the
+    /// default for a missing one.
     pub fn carried(self) -> Option<(u32, u32)>
         ensures value { result ≡ carried_by self.pages self.calls }
         ensures allowed { IfSome result (λ limits. AreAllowed limits.0 limits.1) }
@@ -73,8 +73,8 @@ impl GivenLimits {
         Some((pages, self.calls.unwrap_or(DEFAULT_CALLS)))
     }
 
-    /// Returns the limits of a run of an image that contains the limits `note`. Each limit is the one given here, or else the image's
-    /// limit, or else the default, but no limit is above the limit in `caps`.
+    /// Returns the limits on pages and calls for a run of an image that contains the limits `note`. Each limit is the one given here,
+    /// or else the image's limit, or else the default, but no limit is above the limit in `caps`.
     pub fn of_run(self, caps: GivenLimits, note: Option<(u32, u32)>) -> Limits
         requires { IfSome note (λ limits. AreAllowed limits.0 limits.1) }
         ensures { result ≡ capped_by caps (limits_by self note) }

@@ -16,7 +16,8 @@ use Rattle.cyc_soundness.specs.Sound.{IsSound}
 use Rattle.cyc_soundness.proofs.FormedLemmas.{typed_sound}
 use Rattle.cyc_front.specs.Front.{names_in, IsAcceptedText}
 
--- The grammar symbols that are made from the tokens of an accepted text are no more than the largest number of tokens.
+-- The tokens of an accepted text yield at most `max_tokens` grammar symbols, where `max_tokens` is the largest number
+-- of tokens that a text may have.
 symbols_few : (text : List ℕ) (p : Program) (a : IsAcceptedText text p) → length (symbols_of a.tokens) ≤ max_tokens
 symbols_few text p a = let tokens = length-map a.tokens (symbol_of (distinct_texts (texts_in a.tokens))) in omega (arith, tokens, a.has_tokens.within.count)
 
@@ -39,7 +40,7 @@ accepted_of_text text p a =
     let words = text_constants text a.tokens a.has_tokens.rule a.has_tokens.within in
     of_text p (program_meets (names_in a.tokens) (symbols_of a.tokens) a.tree p a.has_tree.has a.has_tree.within words (symbols_few text p a) a.typed)
 
--- No run of an accepted program reaches a dead state (an access to a closed region or a freed
--- object) or a wrong state (no case of the semantics applies).
+-- No run of an accepted program reaches a dead state (an access to a closed region or a freed object) or a wrong state (no case of the
+-- semantics applies).
 pub accepted_sound : (text : List ℕ) (p : Program) → IsAcceptedText text p → IsSound p
 accepted_sound text p a = typed_sound (names_in a.tokens) a.tree p a.typed a.allowed

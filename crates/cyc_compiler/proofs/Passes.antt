@@ -53,7 +53,7 @@ lowered_is p lowered is = record {
 
 -- ---- a pass: its result follows its argument, at places of the same total cost or less
 
--- Says that a pass makes one function for each function of its input.
+-- Says that a pass over a program makes exactly one function of its output from each function of its input.
 abbrev AreMade : (Routine → Routine → Type 0) → List Routine → List Routine → Type 0
 AreMade IsLike rs ss = (k : ℕ) → k < length rs → IsLike (slice_index_or rs k no_routine) (slice_index_or ss k no_routine)
 
@@ -67,7 +67,8 @@ module _ (IsLike : Routine → Routine → Type 0) (like_of : (h : Function) (r 
   functions_made (h ∷ hs) (r ∷ rs) (s ∷ ss) long like (is, are) =
       (like_of h r s is (like 0 (omega arith)), functions_made hs rs ss (omega (arith, long)) (λ k below. like (suc k) (omega (arith, below))) are)
 
--- The code positions that a simulation assigns to each step of the upper machine may be replaced by others that cost at least as much.
+-- A simulation assigns to each step of the upper (source-level) machine a list of code positions of the lower machine. These lists may
+-- be replaced by others that cost at least as much.
 module _ (above below : Machine) (before : List below.Place) (own dearer : above.Place → List below.Place) (start : above.State) (from : below.State)
     (more : (price : below.Place → ℕ) (p : above.Place) → sum_by price (own p) ≤ sum_by price (dearer p)) where
   sums_dearer : (price : below.Place → ℕ) (places : List above.Place)

@@ -140,7 +140,7 @@ are_alike p image does limits store input allowed new bytes =
 
 -- ---- `IsAhead` is kept by further instructions
 
--- A machine that is ahead of the program stays ahead when the machine executes more instructions.
+-- Suppose that a machine has printed and read at least what the program has. This still holds after the machine executes more instructions.
 stays_ahead : (s : meaning.State) (count : ℕ) (v w : World) → Run count v w → IsAhead s v → IsAhead s w
 stays_ahead s count v w run (seen, ends) = (
   ComesTo-trans (seen_of s) (seen_in v) (seen_in w) seen (Run-output count v w run, Run-input count v w run),

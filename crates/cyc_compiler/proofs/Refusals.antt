@@ -18,7 +18,8 @@ use Rattle.cyc_compiler.specs.Compiled.{IsTooLarge, IsSmallEnough, IsSmall, IsCo
 use Rattle.cyc_compiler.specs.inside.Chain.{IsProgramOf}
 use Rattle.cyc_compiler.proofs.Sizes.{large_above, large_below, small_above, small_below}
 
--- The bytes of a file are an image of the program; other properties of the result may be added to this one.
+-- The bytes of a file are an image of the program, a file whose run does what the program does; other
+-- properties of the result may be added to this one.
 abbrev pub HasImage : Program → Vec ℕ Global → Type 0
 HasImage p file = IsImageOf p file.items
 

@@ -132,8 +132,8 @@ pub fn compile_with_tokens(
     // The returned tokens are those of the text, and the returned typed tree is the program of the text.
     ensures tokens { IfOk result (λ made. HasTokens text.now made.tokens.items) }
     ensures program { IfOk result (λ made. IsAcceptedText text.now (view_program made.program.tree)) }
-    // For every input and without limits, no step of any run of the program accesses a closed
-    // region or a freed object. Each step has a rule of the semantics.
+    // For every input and without limits, no step of any run of the program accesses a closed region or a freed object. Each step has a
+    // rule of the semantics.
     ensures sound { IfOk result (λ _. (p : Program) → IsAcceptedText text.now p → IsSound p) }
     // The image contains the limits of runs in `note`.
     ensures note { IfOk result (λ made. Carries made.image.items note) }

@@ -55,8 +55,8 @@ fn exceptions_of(alloc: Global, tree: &Tree) -> Result<Vec<Declared>, AllocError
     Ok(exceptions)
 }
 
-/// Returns the index of the mark (a source position that the lowering noted) that belongs to an
-/// instruction, given the mark of an earlier instruction.
+/// Returns the index of the mark (a source position that the lowering noted) that belongs to an instruction, given the mark of an earlier
+/// instruction.
 fn mark_at(marks: &Marks, before: usize, number: usize) -> usize {
     let mut found = before;
     for next in before.saturating_add(1)..marks.marks.len() {
@@ -187,7 +187,8 @@ fn inlined_cause(lowered: Lowered<'_>, origin: Origin, site: Site) -> Cause {
     }
 }
 
-/// Returns the number of instructions of an inlined function that are placed after the code of its caller.
+/// Returns the number of instructions of an inlined function that are placed at the end of the caller's
+/// code, after the caller's own instructions.
 fn rest_of(function: &Function) -> usize {
     let mut count: usize = 0;
     for index in line_of(&function.code)..function.code.len() {
@@ -204,9 +205,9 @@ fn rest_of(function: &Function) -> usize {
 #[derive(Drop)]
 struct Sites {
     sites: Vec<(Site, usize)>,
-    /// The first inlined call with instructions that have not been visited yet.
+    /// The index of the first inlined call with instructions, at the end of the function's code, that have not been visited yet.
     next: usize,
-    /// The total number of instructions that have not been visited yet.
+    /// The total number of inlined instructions at the end of the function's code that have not been visited yet.
     left: usize,
 }
 
@@ -222,8 +223,8 @@ impl Sites {
         Ok(())
     }
 
-    /// Returns the call to which an inlined instruction belongs, given the number of instructions from it to the end
-    /// of the function's code.
+    /// Returns the call for which an instruction at the end of a function's code was inlined, given the number of
+    /// instructions from it to the end of the code.
     fn site_at(&mut self, left: usize) -> Option<Site> {
         if left > self.left {
             return Some(self.sites.last()?.0);
@@ -307,8 +308,8 @@ fn add_function(
     Ok(())
 }
 
-/// Returns the first line of assembly code of each instruction after inlining, given the first lines of the instructions that
-/// were made from it.
+/// Returns the first line of assembly code of each instruction of a function as it was after inlining. The argument has the
+/// first lines of the instructions that a later pass made from them.
 fn lines_before(
     alloc: Global,
     named: Option<&Opened>,

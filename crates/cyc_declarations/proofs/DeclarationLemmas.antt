@@ -20,7 +20,8 @@ bodies_after texts tree =
     regrouped (run (rule_declarations (known_of texts tree) (before_all texts) tree)) (run (rule_main (known_of texts tree).main tree)) (program_known texts tree)
     (λ p. run (Part (rule_functions p tree) (λ fs. gives (program_of p tree fs))))
 
--- if the declarations of a program are well-formed, collecting them gives `program_known`, the program with all its declarations
+-- if the declarations of a program are well-formed, the code that collects them gives `program_known`, the program with all its
+-- declarations
 pub declared_is : (texts : List (List ℕ)) (tree : List Declaration) (p : Program) → collected_program texts tree ≡ Ok p → p ≡ program_known texts tree
 declared_is texts tree p e = go (run (rule_declarations (known_of texts tree) (before_all texts) tree)) (run (rule_main (known_of texts tree).main tree)) e
   where

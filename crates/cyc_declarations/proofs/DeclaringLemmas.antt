@@ -1,4 +1,4 @@
--- Lemmas: adding the declarations of a program one after the other gives all its declarations.
+-- Lemmas: adding the declarations of a program one after the other gives the collection of all its declarations.
 use Rattle.std.proofs.Common.{◌≡◌, suc, List, ◌∷◌, ap}
 use Rattle.std.proofs.lemmas.List.{append_assoc}
 use Rattle.cyc_syntax.specs.Trees.{Declaration, StructType, Exceptions, Global, Function}

@@ -1,4 +1,4 @@
--- the result of `collect`, and the parts of a typed program other than its functions
+-- the result of the function `collect`, and the parts of a typed program other than its functions (structs, exceptions, globals, `main`)
 pub mod DeclarationRules
 pub mod Parts
 -- the contracts between functions of this crate

@@ -46,7 +46,8 @@ fn signature_of_ints(alloc: Global, count: usize) -> Result<Signature, AllocErro
     })
 }
 
-/// Returns the built-in declarations of a program, from its built-in regions, its struct names and the number of `main`.
+/// Returns the built-in declarations of a program, from the names of its built-in regions and structs and the number
+/// that identifies the name `main`.
 fn program_before(alloc: Global, names: &Names, known: Known) -> Result<Program, Stop>
     ensures program { IfOk result (λ p. p ≡ program_before names.now known) }
     ensures memory { IfErr result (λ e. e ≡ Memory) }
@@ -183,8 +184,8 @@ impl Declared {
     }
 }
 
-/// Returns all declarations of a program, including the built-in ones, from its built-in regions, its
-/// struct names and the number of `main`.
+/// Returns all declarations of a program, including the built-in ones. They are computed from the names of built-in regions, the names of
+/// structs and the number that identifies the name `main`.
 pub(crate) fn program_declared(
     alloc: Global,
     names: &Names,

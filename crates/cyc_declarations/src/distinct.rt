@@ -12,7 +12,7 @@ use cyc_types::NameSet;
 use cyc_words::Code;
 use std::alloc::AllocError;
 
-/// Demands that a name is not yet in the set, and adds the name to the set.
+/// Requires that a name is not yet declared, that is, not in the set `known`, and adds the name to this set.
 fn demand_new(settled: &mut Settled, known: &mut NameSet, name: Ident) -> Result<(), AllocError>
     ensures settled { OnOk result (settled.new.known ≡ noted settled.old.known
         (demand codes.DeclaredTwice (place_of_span name.span) (not (is_among name.name.number known.old)))) }

@@ -1,4 +1,4 @@
-//! Checks the signatures of functions.
+//! Checks that the signatures of functions are well-formed.
 ghost use Rattle.std.specs.Prelude.{◌≡◌, ◌∷◌, ◌||◌, List, None, Some, nat_eq, not, map, option_map, OnOk};
 ghost use Rattle.cyc_syntax.specs.inside.TreeView.{place_of_span, view_name, view_type, view_member, view_parameters, view_constraint};
 ghost use Rattle.cyc_types.specs.Types.{Ty};
@@ -22,7 +22,7 @@ use cyc_types::{Known, NameSet, Region, RegionNames};
 use cyc_words::Code;
 use std::alloc::Global;
 
-/// Returns true if the written result type is `int`.
+/// Returns true if the result type of a function is written as `int`.
 fn is_int_written(returned: &Option<WrittenType>) -> bool
     ensures { result ≡ is_int_written (option_map view_type returned.now) }
 {
@@ -35,7 +35,7 @@ fn is_int_written(returned: &Option<WrittenType>) -> bool
     }
 }
 
-/// Returns true if the function `main` may have the given signature.
+/// Returns true if a function with the given signature may have the name `main`.
 fn is_main_head(returned: &Option<WrittenType>, parameters: &Parameters) -> bool
     ensures { result ≡ is_main_head (option_map view_type returned.now) (view_parameters parameters.now) }
 {
@@ -45,7 +45,7 @@ fn is_main_head(returned: &Option<WrittenType>, parameters: &Parameters) -> bool
         && parameters.constraints.is_empty()
 }
 
-/// Checks that the written result type is well-formed; it may use the region names that the parameters declare.
+/// Checks that the result type of a function, as written, is well-formed; it may use the region names that the parameters declare.
 fn check_result(
     known: &Known,
     names: &RegionNames,
@@ -117,8 +117,8 @@ fn check_parameters(
     Ok(())
 }
 
-/// Demands that the regions of a written effect are in scope. No region of the effect may be the unique region or have a key
-/// (for opening it).
+/// Requires that the regions of an effect as written are in scope. No region of the effect may be the unique region or have
+/// a key (for opening it).
 fn demand_effect(settled: &mut Settled, names: &RegionNames, keys: &Keys, regions: &[Ident])
     ensures { settled.new.known ≡ settle settled.old.known (effect_asked names.now keys.now (map view_name regions.now)) }
 {

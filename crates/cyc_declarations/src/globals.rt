@@ -48,7 +48,7 @@ fn is_non_null(of_type: &Ty) -> bool
     }
 }
 
-/// Demands that the initial value of a global fits the global's type.
+/// Requires that the initial value of a global fits the global's type.
 fn demand_value(settled: &mut Settled, of_type: &Ty, span: Span, value: Option<GlobalValue>)
     ensures { settled.new.known ≡ settle settled.old.known (value_demanded (view_ty of_type.now) (place_of_span span) (option_map view_value value)) }
 {
@@ -66,7 +66,7 @@ fn demand_value(settled: &mut Settled, of_type: &Ty, span: Span, value: Option<G
     }
 }
 
-/// Demands that a name is new, and that the name is not `main` unless this is allowed.
+/// Requires that a name is new, and that it is not `main` unless this is allowed.
 pub(crate) fn demand_head(settled: &mut Settled, name: Ident, is_new: bool, is_no_main: bool)
     ensures { settled.new.known ≡ settle settled.old.known (head_demanded (place_of_span name.span) is_new is_no_main) }
 {

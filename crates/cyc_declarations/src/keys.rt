@@ -35,7 +35,7 @@ impl Keys {
         }
     }
 
-    /// Returns true if the set contains a key (used to open a dynamic region) of the given region.
+    /// Returns true if the set contains the given region, as one that has a key (used to open a dynamic region).
     pub(crate) fn has(&self, region: Region) -> bool
         ensures { result ≡ has self.now region }
     {

@@ -1,4 +1,4 @@
-//! A typed program, composed of its declarations and the bodies of its functions.
+//! A typed program, which consists of its declarations and the bodies of its functions.
 ghost use Rattle.std.specs.Prelude.{◌≡◌, ◌++◌, List, map, IfOk, OnOk};
 ghost use Rattle.cyc_syntax.specs.inside.TreeView.{view_declaration, view_constructor};
 ghost use Rattle.cyc_types.specs.TypeView.{view_ty};
@@ -96,7 +96,7 @@ fn exceptions_of(alloc: Global, declarations: &[Declaration]) -> Result<Vec<bool
     Ok(all)
 }
 
-/// The parts of a typed program other than its functions.
+/// The parts of a typed program other than its functions: the structs, exceptions and globals, and the index of `main`.
 #[derive(Drop)]
 pub struct Parts {
     structs: Vec<typed::StructType>,
@@ -105,8 +105,8 @@ pub struct Parts {
     main: usize,
 }
 
-/// Returns the parts of a program other than the bodies of its functions, from its built-in regions, its
-/// struct names and the number of `main`.
+/// Returns the parts of a program other than the bodies of its functions. They are computed from the
+/// names of built-in regions, the names of structs and the number that identifies the name `main`.
 pub fn parts_of(
     alloc: Global,
     known: &Known,
@@ -127,7 +127,7 @@ impl Parts {
     ghost use Rattle.cyc_types.specs.TypedTreeView.{view_function, view_program};
     ghost use Rattle.cyc_declarations.specs.inside.Parts.{program_with};
 
-    /// Returns the typed program that consists of these parts and the given functions.
+    /// Returns the typed program that consists of the given functions and the given other parts (structs, exceptions, globals, `main`).
     pub fn with_functions(self, functions: Vec<typed::Function>) -> TypedTree
         ensures { view_program result ≡ program_with self (map view_function functions.items) }
     {

@@ -61,8 +61,8 @@ impl HeadTypes {
     ghost use Rattle.cyc_types.specs.typing.DeclarationRules.{parameter_naming, parameter_types, result_written, and_result};
     ghost use Rattle.cyc_declarations.specs.inside.KeyTables.{AreKeysOf};
 
-    /// Returns the types in a signature. After the call, `names` contains exactly the built-in region names and those that the
-    /// signature's parameters declare.
+    /// Returns the parameter and result types of a signature. After the call, `names` contains exactly the built-in region
+    /// names and those that the signature's parameters declare.
     pub(crate) fn new(
         alloc: Global,
         known: &Known,
@@ -93,7 +93,7 @@ impl HeadTypes {
         })
     }
 
-    /// Returns the set of the regions whose keys (used to open dynamic regions) are among the types of the signature.
+    /// Returns the set of the regions that have a key (used to open dynamic regions) among the types of the signature.
     pub(crate) fn keys(&self, alloc: Global) -> Result<Keys, AllocError>
         ensures { IfOk result (λ keys. AreKeysOf keys (and_result (map view_ty self.now.parameters.items) (option_map view_ty self.now.result))) }
     {
@@ -134,7 +134,7 @@ fn regions_of(
 }
 
 /// Returns the effect of a signature (the regions that must be live at a call). An omitted effect consists of all regions
-/// of the types, except the regions of keys.
+/// of the types, except the regions that have a key.
 fn effect_of(
     alloc: Global,
     names: &RegionNames,

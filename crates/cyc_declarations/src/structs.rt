@@ -1,4 +1,4 @@
-//! Checks the declarations of structs.
+//! Checks that the declarations of structs are well-formed.
 ghost use Rattle.std.specs.Prelude.{◌≡◌, ◌∷◌, map, OnOk};
 ghost use Rattle.cyc_syntax.specs.inside.TreeView.{view_name, view_member};
 ghost use Rattle.cyc_types.specs.Rules.{Part, demands, run};
@@ -12,7 +12,7 @@ use cyc_syntax::{Ident, Member};
 use cyc_types::{Known, NameSet, Region, RegionNames, StructNames};
 use std::alloc::AllocError;
 
-/// The names inside one declaration: the names of its members, and the names of regions.
+/// The names that one struct or function declares: the names of its fields or parameters, and the names of regions.
 #[derive(Drop)]
 pub(crate) struct Inside {
     pub(crate) members: NameSet,

@@ -1,4 +1,4 @@
-//! All declarations of a program: the check that they are well-formed, and their results.
+//! All declarations of a program: the check that they are well-formed, and the table of declarations that results.
 ghost use Rattle.std.specs.Prelude.{◌≡◌, map, IfOk};
 ghost use Rattle.cyc_syntax.specs.Names.{number_of};
 ghost use Rattle.cyc_syntax.specs.inside.TreeView.{view_declaration};
@@ -31,7 +31,7 @@ pub(crate) fn number_of(names: &Names, text: &[u8]) -> usize
     }
 }
 
-/// The names that are declared before the current declaration, in each name space.
+/// The names that are declared before the current declaration, for each name space (such as structs and exceptions).
 #[derive(Drop)]
 struct Before {
     structs: NameSet,
@@ -166,7 +166,8 @@ fn declares(name: usize, declarations: &[Declaration]) -> bool
     false
 }
 
-/// Checks that the function `main` is declared; its name has the number `main`. The fault of a missing `main` has no position in the text.
+/// Checks that the function `main` is declared; the number given identifies the name `main`. The fault of a missing `main` has no position
+/// in the text.
 fn check_main(main: usize, declarations: &[Declaration]) -> Result<(), Stop>
     ensures { Gives (λ _. tt) result (run (rule_main main (map view_declaration declarations.now))) }
 {

@@ -24,13 +24,13 @@ use Rattle.cyc_elf.proofs.Sound.{keeps_from_kept, are_limits-from, are_apart_fro
 
 -- ---- fields
 
--- If a file begins with `place` other bytes, a field after them is read as it is without these bytes.
+-- If a file begins with `place` other bytes, a header field after them has the same value as at the start of a file without these bytes.
 field-following : (width offset place : ℕ) (front rest : List ℕ) → length front ≡ place → field width (place + offset) (front ++ rest) ≡ field width offset rest
 unfolding field
 field-following width offset place front rest len =
     ap (big_number width) (ap (λ (p : ℕ). drop (p + offset) (front ++ rest)) (sym len) ∙ drop-append-add front rest offset)
 
--- If a field comes directly after other bytes, it is read as it is without these bytes.
+-- If a header field comes directly after other bytes, it has the same value as at the start of a file without these bytes.
 field-right_after : (width place : ℕ) (front rest : List ℕ) → length front ≡ place → field width place (front ++ rest) ≡ field width 0 rest
 unfolding field
 field-right_after width place front rest len = ap (big_number width) (drop_at front rest place len)
@@ -212,7 +212,7 @@ note_rules_again limits place file n fit =
     ap first_fault (own_rules-note file false (note_header place) (is_note_again limits place file n))
     ∙ rw (n.description, n.kind, n.limits_are, are_limits-from limits fit) refl
 
--- The traversal of the header table finds the limits of a note at the note's header.
+-- The traversal of the header table finds the limits on pages and calls that a note states when it reaches the note's header.
 walk_notes : (file : List ℕ) (known : Option (ℕ × ℕ)) (place : ℕ) (front : List ℕ) → length front ≡ place → file ≡ front ++ notes known → IfSome known AreLimits
     → walk file None (note_headers place known) ≡ record { loads = []; note = known; fault = None }
 walk_notes file None place front len is fit = refl
@@ -267,7 +267,7 @@ file_rules_again address count file h room =
 
 -- ---- the whole file
 
--- The parts of the file layout of an image, beginning with the table of program headers.
+-- The sections of the file layout of an image, beginning with the table of program headers.
 abbrev table : ImageContents → List ℕ
 table i = flat_map program_header (laid_headers i)
 
@@ -365,8 +365,8 @@ each_stored i segments good same =
 pub headers_counted : (i : Image) (len more : ℕ) (segments : List Segment) → len ≡ length segments → more ≡ note_count i.note → segments ≡ i.segments.items → len + more ≡ headers_count (contents_of i)
 headers_counted i len more segments many one same = omega (arith, many, one, ap length same, length-map i.segments.items segment_contents)
 
--- The written file consists of five parts in sequence: the file header, the segments' program
--- headers, the note's program header, the segments' bytes, and the note.
+-- The written file consists of five parts in sequence: the file header, the segments' program headers, the note's program header, the
+-- segments' bytes, and the note.
 pub written : (i : ImageContents) (a b c d e : List ℕ) → a ≡ file_header i.entry (headers_count i)
     → b ≡ a ++ flat_map program_header (headers_of (bytes_start i) i.segments)
     → c ≡ b ++ flat_map program_header (note_headers (note_start i) i.note)

@@ -1,4 +1,5 @@
--- The result of the file reader is derived from the results for the file header, the table of program headers, and the entry.
+-- The result of the file reader is derived from three results: that of reading the file header, that of traversing the
+-- program headers, and that of the test of the entry address.
 use Rattle.std.proofs.Common.{◌≡◌, ℕ, ◌+◌, ◌≤◌, ◌%◌, Bool, true, false, ◌&&◌, ◌||◌, eqb, List, [], ◌∷◌, length, map, Option, Some, None, Result, Ok, Err, All, refl, sym, ap, subst, ◌∙◌, arith}
 use Rattle.std.specs.List.{list_any}
 use Rattle.std.proofs.lemmas.List.{get_or-map, length-map}

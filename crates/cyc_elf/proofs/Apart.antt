@@ -143,7 +143,7 @@ in_order-empty high h rest e = ap (λ b. cond b (in_order high rest) (placed hig
 in_order-full : (high : ℕ) (h : ProgramHeader) (rest : List ProgramHeader) → eqb h.memory_size 0 ≡ false → in_order high (h ∷ rest) ≡ placed high h rest
 in_order-full high h rest e = ap (λ b. cond b (in_order high rest) (placed high h rest)) e
 
--- Says that no header covers an address below `high`, and that no address is covered twice.
+-- Says that no header of the list covers an address below `high`, and that no address is covered by two headers.
 record Once (high : ℕ) (hs : List ProgramHeader) (a : ℕ) : Type 0 where
   below : a < high → covering a hs ≡ 0
   once : covering a hs ≤ 1
@@ -181,7 +181,8 @@ Rising-lower : (low lower : ℕ) (hs : List ProgramHeader) → lower ≤ low →
 Rising-lower low lower [] le up = tt
 Rising-lower low lower (h ∷ rest) le up = (omega (arith, up.0), up.1)
 
--- If headers after a header with memory are out of order, then two headers share an address.
+-- Let headers sorted by address follow a header with memory. If one of them begins before the previous header ends, then two headers share
+-- an address.
 in_order-false : (g : ProgramHeader) (hs : List ProgramHeader) → 0 < g.memory_size → Rising g.vaddr hs → in_order (g.vaddr + g.memory_size) hs ≡ false → (a : ℕ) × (2 ≤ one (covers g a) + covering a hs)
 in_order-false g [] some up e = absurd (false≢true (sym e))
 in_order-false g (h ∷ rest) some up e =
@@ -203,7 +204,8 @@ in_order-false g (h ∷ rest) some up e =
           ]
     ]
 
--- If the whole list of sorted headers is out of order, then two headers share an address.
+-- If, in the whole list of headers sorted by address, some header begins before the end of the previous one, then two headers share an
+-- address.
 in_order-false_start : (low : ℕ) (hs : List ProgramHeader) → Rising low hs → in_order 0 hs ≡ false → (a : ℕ) × (2 ≤ covering a hs)
 in_order-false_start low [] up e = absurd (false≢true (sym e))
 in_order-false_start low (h ∷ rest) up e =
@@ -224,7 +226,7 @@ rising low [] first up = tt
 rising low (x ∷ xs) first up =
     (first 0 x (omega arith), rising x.vaddr xs (λ j d lt. up 0 (suc j) d (omega arith) (omega arith)) (λ i j d le lt. up (suc i) (suc j) d (omega arith) (omega arith)))
 
--- Each of the headers sorted by address begins at or after the end of the one before exactly if no two headers of the file overlap.
+-- Let headers be sorted by address. Each begins at or after the end of the one before exactly if no two of the headers overlap in memory.
 pub in_order-are_apart : (xs sorted : List raw.ProgramHeader) → IsPermutation xs sorted → IsNonDecreasingBy (λ h. h.vaddr) sorted → in_order 0 (map fields_of sorted) ≡ are_apart [] (map fields_of xs)
 in_order-are_apart xs sorted same up =
     elim (cases_Bool (in_order 0 (map fields_of sorted))) [

@@ -1,9 +1,9 @@
--- Facts about lists to which a writer appends piece by piece.
+-- Facts about byte lists to which a writer appends one piece after another.
 use Rattle.std.proofs.Common.{◌≡◌, ℕ, ◌-◌, List, [], ◌∷◌, ◌++◌, take, replicate, ap, ◌∙◌, append_assoc, arith}
 use Rattle.std.proofs.lemmas.List.{take-replicate}
 use Rattle.cyc_elf.specs.Image.{padded}
 
--- Appending two pieces in sequence appends their concatenation.
+-- Appending one list of bytes and then another has the same result as appending their concatenation.
 pub appends_both : (start middle end a b : List ℕ) → middle ≡ start ++ a → end ≡ middle ++ b → end ≡ start ++ (a ++ b)
 appends_both start middle end a b first second = second ∙ ap (λ (xs : List ℕ). xs ++ b) first ∙ append_assoc start a b
 

@@ -27,7 +27,7 @@ load =
 abbrev text : List ℕ
 text = 0 ∷ 0 ∷ 0 ∷ 12 ∷ []
 
--- The example file, whose entry is 0x400000, or 4 or 8 bytes later.
+-- The example file with one of three entry addresses: 0x400000, or the address 4 or 8 bytes later.
 abbrev file : (last_of_entry : ℕ) → List ℕ
 file n = kind ++ (0 ∷ 64 ∷ 0 ∷ n ∷ []) ++ table ++ load ++ text
 
@@ -42,7 +42,7 @@ it_is_read : reading (file 0) ≡ Ok (image 0x400000)
 unfolding reading file_rules own_rules entry_rules headers_from program_header_at field is_note is_named limits_at
 it_is_read = refl
 
--- The second word of the segment may be the entry, although the file stores no bytes for that word.
+-- The entry address may be that of the second word of the segment, although the file stores no bytes for that word.
 entered_at_its_second_word : reading (file 4) ≡ Ok (image 0x400004)
 unfolding reading file_rules own_rules entry_rules headers_from program_header_at field is_note is_named limits_at
 entered_at_its_second_word = refl

@@ -1,4 +1,5 @@
--- The parts of the file reader together implement the rules of the format.
+-- The functions that read the file header, traverse the program headers and test the entry address
+-- together implement the rules of the format.
 use Rattle.std.proofs.Common.{◌≡◌, ℕ, ◌+◌, ◌≤◌, ◌%◌, Bool, true, false, cond, not, ◌&&◌, ◌||◌, eqb, ltb, leb, List, [], ◌∷◌, ◌++◌, length, map, Option, Some, None, is_some, Ok, Err, refl, sym, ap, ◌∙◌, inl, inr, append_assoc}
 use Rattle.std.specs.List.{list_any, AllByRecursion}
 use Rattle.std.proofs.lemmas.Bool.{leb-true, eqb-true, and_parts, cases_Bool}
@@ -33,7 +34,7 @@ unfolding own_rules
 own_rules-load file before h load =
     ap (λ (k : ℕ). cond (eqb k 3) (broken true Interp ∷ []) (cond (eqb k 1) (load_rules (length file) h) (cond (is_note file h) (note_rules file before h) []))) load
 
--- Says that a program header is the header of a note with limits.
+-- Says that a program header is the header of a note with limits on pages and calls.
 pub record Described (file : List ℕ) (h : ProgramHeader) : Type 0 where
   pub kind : h.kind ≡ 4
   pub long : 20 ≤ h.file_size
@@ -58,7 +59,7 @@ pub is_note-load : (file : List ℕ) (h : ProgramHeader) → is_load h ≡ true 
 unfolding is_note
 is_note-load file h load = ap (λ (k : ℕ). eqb k 4 && leb 20 h.file_size && leb (h.offset + h.file_size) (length file) && is_named file h.offset) (eqb-true _ _ load)
 
--- If a file has a second note with limits, the note violates a rule.
+-- If a file has a second note with limits on pages and calls, this note violates a rule of the format.
 breaks : (a b c d : Bool) → first_fault (broken a BadSegment ∷ broken b BadSegment ∷ broken c BadSegment ∷ broken d BadSegment ∷ broken true BadSegment ∷ []) ≡ Some BadSegment
 breaks true b c d = refl
 breaks false true c d = refl
@@ -73,7 +74,7 @@ second_note file h is =
 
 -- ---- the table of program headers
 
--- Returns the fault of the traversal of the headers, or `BadSegment` if two of the segments overlap.
+-- Returns the fault with which the traversal of the headers ended or, if it ended without one, `BadSegment` if two of the segments overlap.
 abbrev pub outcome : Bool → Option ElfFault → Option ElfFault
 outcome apart found = cond apart found (Some BadSegment)
 
@@ -84,7 +85,7 @@ loads_push earlier h = filter-append is_load earlier (h ∷ []) ∙ taken (is_lo
     taken true = refl
     taken false = append-nil (loads earlier)
 
--- The fault of a header list with one more header at the front depends on whether that header overlaps another one.
+-- If one more header is put in front of a list of headers, the fault of the list depends on whether this header overlaps one of the others.
 with_overlap : (any : Bool) (later : Bool) (found : Option ElfFault) → cond any (Some BadSegment) (outcome later found) ≡ outcome (not any && later) found
 with_overlap true later found = refl
 with_overlap false later found = refl
@@ -162,7 +163,7 @@ step_fault : (known : Option (ℕ × ℕ)) (h : ProgramHeader) (w : Walk) (o : O
 step_fault known h w (Some f) none = absurd cc
 step_fault known h w None none = (refl, none, refl)
 
--- If the reader finds no fault, the file has no second note.
+-- If the reader finds no fault, the file has no second note with limits on pages and calls.
 only_note : (file : List ℕ) (limits : ℕ × ℕ) (headers : List ProgramHeader) → (walk file (Some limits) headers).fault ≡ None → (walk file (Some limits) headers).note ≡ Some limits
 only_note file limits [] none = refl
 only_note file limits (h ∷ rest) none =
@@ -175,7 +176,7 @@ only_note file limits (h ∷ rest) none =
           ∙ only_note file limits rest (sym (ap (λ (n : Option (ℕ × ℕ)). (walk file n rest).fault) same) ∙ parts.1)
     ]
 
--- If the traversal of the headers ends without a fault, the note that it found is the first note.
+-- If the traversal of the headers ends without a fault, the limits that it found are those of the first note with limits.
 pub walk_note : (file : List ℕ) (headers : List ProgramHeader) → (walk file None headers).fault ≡ None → (walk file None headers).note ≡ note_among file headers
 walk_note file [] none = refl
 walk_note file (h ∷ rest) none =
@@ -198,7 +199,8 @@ walk_note file (h ∷ rest) none =
 abbrev pub table_of : List ℕ → Walk
 table_of file = walk file None (program_headers file)
 
--- The first fault of a file is the first fault of the file header's rules, of the header table, or of the entry, in this order.
+-- The first fault of a file is the first violated rule of the file header; if there is none, of the header table; and otherwise
+-- of the entry address.
 by_parts : (file : List ℕ) → first_fault (rules file) ≡ or_else (first_fault (file_rules file)) (or_else (outcome (are_apart [] (table_of file).loads) (table_of file).fault) (first_fault (entry_rules (program_headers file) (entry file))))
 by_parts file =
     ap first_fault (append_assoc (file_rules file) (table_rules file [] (program_headers file)) (entry_rules (program_headers file) (entry file)))
@@ -219,7 +221,7 @@ pub reading-table_fault : (file : List ℕ) (f : ElfFault) → first_fault (file
 unfolding reading
 reading-table_fault file f fine apart found = rw (by_parts file, fine, apart, found) refl
 
--- Returns true if the entry is the address of a word in the segment of a loadable header.
+-- Returns true if the entry address is a multiple of 4 and lies in the segment of a loadable header.
 abbrev pub is_entry : List ProgramHeader → ℕ → Bool
 is_entry headers address = list_any (λ h. covers h address) headers && eqb (address % 4) 0
 

@@ -26,7 +26,7 @@ pub record Kept (len : ℕ) (h : ProgramHeader) : Type 0 where
   pub word : h.vaddr % 4 ≡ 0
   pub stored : h.offset + h.file_size ≤ len
 
--- If a list of rules yields no fault, the first rule is satisfied, and the later rules yield no fault.
+-- If checking a list of rules yields no fault, then the first rule is satisfied, and checking the later rules yields no fault.
 unbroken : (b : Bool) (f : ElfFault) (later : Option ElfFault) → cond b (Some f) later ≡ None → (b ≡ false) × (later ≡ None)
 unbroken true f later e = absurd cc
 unbroken false f later e = (refl, e)
@@ -61,7 +61,7 @@ segment_from_kept file h kept = record {
 
 -- ---- a single note
 
--- If the test of the limits succeeds, then the number of pages and the number of calls are in their ranges.
+-- If the test of the limits of a note succeeds, then the number of pages and the number of calls are in their ranges.
 pub are_limits-true : (limits : ℕ × ℕ) → are_limits limits ≡ true → AreLimits limits
 are_limits-true limits e =
     let three = and_parts (leb 3 limits.0 && leb limits.0 65536 && leb 1 limits.1) (leb limits.1 4096) e in
@@ -78,7 +78,7 @@ pub are_limits-from : (limits : ℕ × ℕ) → AreLimits limits → are_limits 
 are_limits-from limits fit =
     rw (le-leb 3 limits.0 fit.enough_pages, le-leb limits.0 65536 fit.few_pages, le-leb 1 limits.1 fit.enough_calls, le-leb limits.1 4096 fit.few_calls) refl
 
--- States the rules that a note satisfies, as propositions.
+-- States, as propositions, the rules that a note with limits on pages and calls satisfies.
 pub record KeptNote (file : List ℕ) (h : ProgramHeader) : Type 0 where
   pub whole : 28 ≤ h.file_size
   pub description : field 4 (h.offset + 4) file ≡ 8

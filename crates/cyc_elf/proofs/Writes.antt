@@ -19,21 +19,22 @@ headers_left-at xs i offset x lt here =
     let split : drop i xs ≡ x ∷ drop (i + 1) xs = rw add-one (drop-cons xs i x lt ∙ rw (← here) refl) in
     ap (λ (ys : List Segment). headers_of offset (map segment_contents ys)) split
 
--- The end of the segments' bytes, from the segment at an index on, is computed after adding that segment's padded length.
+-- The segments' bytes, from the segment at an index on, end at the same file offset if this segment's padded length is
+-- first added to the offset.
 pub bytes_end-at : (xs : List Segment) (i offset : ℕ) (x : Segment) → i < length xs → x ≡ get_or xs i x
     → bytes_end offset (map segment_contents (drop i xs)) ≡ bytes_end (offset + padded (length x.bytes.items)) (map segment_contents (drop (i + 1) xs))
 bytes_end-at xs i offset x lt here =
     let split : drop i xs ≡ x ∷ drop (i + 1) xs = rw add-one (drop-cons xs i x lt ∙ rw (← here) refl) in
     ap (λ (ys : List Segment). bytes_end offset (map segment_contents ys)) split
 
--- Says that `rest` are the headers still to be written: their offsets fit, they complete the written bytes, and the numbers in the
--- written headers fit.
+-- Loop invariant of writing program headers: `rest` are those still to be written, their offsets fit 32 bits, and with the bytes
+-- written so far they are all headers. If the numbers in `rest` fit their fields, so do those in all headers.
 pub record IsAt (out start : List ℕ) (rest whole : List ProgramHeader) : Type 0 where
   pub fit : All (λ h. h.offset < 2 ^ 32) rest
   pub bytes : out ++ flat_map program_header rest ≡ start ++ flat_map program_header whole
   pub words : All IsInWords rest → All IsInWords whole
 
--- Writing one more header keeps the invariant of the writer's loop.
+-- After one more program header is written, the invariant of the loop that writes program headers still holds.
 pub is_at_next : (out after start : List ℕ) (h : ProgramHeader) (rest rest' whole : List ProgramHeader) → rest ≡ h ∷ rest' → after ≡ out ++ program_header h → IsInWords h → IsAt out start rest whole → IsAt after start rest' whole
 is_at_next out after start h rest rest' whole split put fits at =
     let fit : All (λ g. g.offset < 2 ^ 32) (h ∷ rest') = subst (All (λ g. g.offset < 2 ^ 32)) split at.fit in

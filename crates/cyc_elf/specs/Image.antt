@@ -47,7 +47,7 @@ pub record IsSegment (s : SegmentContents) : Type 0 where
   pub aligned : s.vaddr % 4 ≡ 0
 
 -- Says that an image is well-formed: its segments are valid and disjoint, the entry is the address of a word in a segment, and the
--- limits are in their ranges.
+-- limits on runs are in range.
 pub record IsWellFormed (i : ImageContents) : Type 0 where
   pub each : All IsSegment i.segments
   pub apart : AllPairs AreApart i.segments

@@ -9,7 +9,7 @@ use Rattle.cyc_elf.specs.Header.{ProgramHeader}
 use Rattle.cyc_elf.specs.Image.{ImageContents}
 use Rattle.cyc_elf.specs.Reading.{segment_of}
 
--- Returns the specification's program header for a program header as the reader's code stores it.
+-- Converts a program header as the reader's code stores it to a program header of the specification.
 abbrev pub fields_of : raw.ProgramHeader → ProgramHeader
 fields_of h = record {
   kind = h.kind;
@@ -20,7 +20,7 @@ fields_of h = record {
   flags = h.flags;
 }
 
--- Returns the image that an outline and its file describe together.
+-- Returns the image that an outline (an image without its segments' bytes) denotes, with the bytes taken from the file.
 abbrev pub outlined : List ℕ → Outline → ImageContents
 outlined file o = record { entry = o.entry; segments = map (segment_of file) (map fields_of o.loads.items); note = o.note }
 

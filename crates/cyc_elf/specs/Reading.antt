@@ -18,7 +18,7 @@ pub record Rule : Type 0 where
 abbrev pub broken : Bool → ElfFault → Rule
 broken b f = record { is_broken = b; fault = f }
 
--- Returns the fault of the first violated rule, if any.
+-- Returns the fault of the first rule in a list that the file violates, or none if the file satisfies all rules.
 abbrev pub first_fault : List Rule → Option ElfFault
 first_fault [] = None
 first_fault (r ∷ rest) = if r.is_broken then Some r.fault else first_fault rest
@@ -76,8 +76,8 @@ note_rules file noted h =
     ∷ broken noted faults.BadSegment
     ∷ []
 
--- The rules of a single program header, given whether a note came before it. One rule is that the header requests no interpreter.
--- Headers of other kinds and other notes are ignored.
+-- The rules of a single program header, given whether a note with limits came before it. One rule is that the header requests no
+-- interpreter. Headers of other kinds and other notes are ignored.
 unfoldable pub own_rules : List ℕ → (noted : Bool) → ProgramHeader → List Rule
 own_rules file noted h =
     if is_interpreter h
@@ -88,7 +88,7 @@ own_rules file noted h =
     then note_rules file noted h
     else []))
 
--- The rule between a program header and the headers before it: no two loadable headers overlap.
+-- The rule between a program header and the headers before it: the memory of two loadable headers must not overlap.
 abbrev pub overlap_rule : List ProgramHeader → ProgramHeader → Rule
 overlap_rule earlier h = broken (is_load h && list_any (overlap h) (loads earlier)) faults.BadSegment
 
@@ -98,7 +98,7 @@ table_rules file earlier [] = []
 table_rules file earlier (h ∷ rest) =
     own_rules file (list_any (is_note file) earlier) h ++ overlap_rule earlier h ∷ table_rules file (earlier ++ h ∷ []) rest
 
--- The rule of the entry: it is the address of a word in one of the segments.
+-- The rule of the entry address, at which a run starts: it is the address of a word in one of the segments.
 unfoldable pub entry_rules : List ProgramHeader → ℕ → List Rule
 entry_rules headers address =
     broken (not (list_any (λ h. covers h address) (loads headers))) faults.BadEntry
@@ -121,7 +121,7 @@ segment_of file h = record {
   size = h.memory_size;
 }
 
--- Returns the limits of the first note among program headers.
+-- Returns the limits on pages and calls that the first note with limits among program headers states.
 abbrev pub note_among : List ℕ → List ProgramHeader → Option (ℕ × ℕ)
 note_among file [] = None
 note_among file (h ∷ rest) = if is_note file h then Some (limits_at file h.offset) else note_among file rest

@@ -1,4 +1,4 @@
-//! An executable image in memory, which consists of segments and an entry.
+//! An executable image in memory, which consists of segments, an entry address and optional limits.
 
 /// A loadable segment of an image.
 ///
@@ -16,7 +16,7 @@ pub struct Segment {
     pub size: u32,
 }
 
-/// An executable image: its entry, its segments in the order of their headers, and its limits.
+/// An executable image: its entry address, its segments in the order of their headers, and its limits on pages and calls, if any.
 #[derive(Debug, PartialEq, Eq, Drop)]
 pub struct Image {
     /// The address of the image's first instruction.

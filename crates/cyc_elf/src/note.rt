@@ -1,4 +1,4 @@
-//! The note that stores the limits of an image's runs.
+//! The note that stores an image's limits on the pages and the calls of a run.
 
 ghost use Rattle.std.specs.Prelude.{◌≡◌, ◌+◌, ◌≤◌, ◌&&◌, not, nat_lt, ◌==◌, length};
 ghost use Rattle.cyc_elf.specs.Header.{field};
@@ -21,7 +21,7 @@ pub const NOTE_TYPE: u32 = 1;
 /// The number of bytes of a note up to the end of the owner's name.
 pub const NAMED_SIZE: usize = 20;
 
-/// The number of bytes of a note with limits.
+/// The number of bytes of a note with limits on pages and calls.
 pub const NOTE_SIZE: usize = 28;
 
 /// The smallest number of pages that a note may specify.
@@ -62,8 +62,8 @@ fn are_limits(limits: (u32, u32)) -> bool
     MIN_PAGES <= pages && pages <= MAX_PAGES && MIN_CALLS <= calls && calls <= MAX_CALLS
 }
 
-/// Returns true if the note of `size` bytes at `start` satisfies the rules of a note with limits. The rule that the note must be
-/// the first one is not checked.
+/// Returns true if the note of `size` bytes at `start` satisfies the rules of a note with limits on pages and calls. The rule
+/// that the note must be the first one is not checked.
 pub fn keeps_rules(file: &[u8], start: usize, size: usize) -> bool
     requires { start + size ≤ length file.now }
     ensures { result ≡ (not (nat_lt size note_size) && (field 4 (start + 4) file.now == description_size)

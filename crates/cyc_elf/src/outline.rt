@@ -17,7 +17,7 @@ pub struct Outline {
     pub entry: u32,
     /// The loadable program headers, in the order of the file.
     pub loads: Vec<ProgramHeader>,
-    /// The maximal numbers of pages and of calls of a run, as in an `Image`.
+    /// The maximal numbers of heap pages and of simultaneous calls of a run, if the file states them, as in an `Image`.
     pub note: Option<(u32, u32)>,
 }
 

@@ -94,7 +94,7 @@ impl ProgramHeader {
         self.kind == LOAD
     }
 
-    /// Returns the address just after the segment.
+    /// Returns the address just after the segment that the program header describes.
     pub(crate) fn end(&self) -> u64
         ensures { result ≡ self.now.vaddr + self.now.memory_size }
     {
@@ -134,7 +134,7 @@ impl ProgramHeader {
         None
     }
 
-    /// Returns the fault of the first rule that a single header violates, given whether a note came before it.
+    /// Returns the fault of the first rule that a single program header violates, given whether a note with limits came before it.
     #[tactic(auto, unfolding(crate::specs::Reading::own_rules, crate::specs::Note::is_note))]
     pub(crate) fn own_fault(&self, file: &[u8], noted: bool) -> Option<ElfFault>
         ensures { result ≡ first_fault (own_rules file.now noted (fields_of self.now)) }

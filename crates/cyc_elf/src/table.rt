@@ -96,7 +96,7 @@ fn in_order(sorted: &[ProgramHeader]) -> bool
     true
 }
 
-/// Returns true if no two of the segments share an address.
+/// Returns true if no two of the segments that program headers describe share an address.
 ///
 /// A table may have 65,535 headers, so the function sorts them instead of comparing all pairs.
 pub fn are_apart(alloc: Global, loads: &[ProgramHeader]) -> Result<bool, AllocError>
@@ -106,7 +106,7 @@ pub fn are_apart(alloc: Global, loads: &[ProgramHeader]) -> Result<bool, AllocEr
     Ok(in_order(&sorted))
 }
 
-/// Returns the segment that a header describes.
+/// Returns the segment that a program header describes, with its bytes copied from the file.
 fn segment_of(alloc: Global, file: &[u8], header: ProgramHeader) -> Result<Segment, AllocError>
     requires { header.offset + header.file_size ≤ length file.now }
     ensures { IfOk result (λ s. segment_contents s ≡ segment_of file.now (fields_of header)) }

@@ -147,7 +147,7 @@ fn put_note_header(
     }
 }
 
-/// Appends the bytes of a note with limits.
+/// Appends the bytes of a note with limits on pages and calls.
 #[tactic(auto, unfolding(crate::specs::Layout::note_bytes))]
 fn put_note_bytes(out: &mut Vec<u8>, pages: u32, calls: u32) -> Result<(), AllocError>
     ensures bytes { OnOk result (out.new.items ≡ out.old.items ++ note_bytes (pages, calls)) }
@@ -157,7 +157,7 @@ fn put_note_bytes(out: &mut Vec<u8>, pages: u32, calls: u32) -> Result<(), Alloc
     put_words(out, &[pages, calls])
 }
 
-/// Appends the bytes of a note, if the image has limits.
+/// Appends the bytes of the note with the limits on pages and calls, if the image has limits.
 fn put_note(out: &mut Vec<u8>, note: Option<(u32, u32)>) -> Result<(), AllocError>
     ensures bytes { OnOk result (out.new.items ≡ out.old.items ++ notes note) }
 {

@@ -92,7 +92,8 @@ end_seen (Some reported) None c xs h e k = absurd h
 end_seen (Some reported) (Some left) None xs h e k = absurd k
 end_seen (Some reported) (Some left) (Some more) xs h e k = k ∙ e
 
--- One more iteration of the engine's loop keeps `Progress`, by cases of the instruction's event.
+-- One more iteration of the engine's loop keeps `Progress`, by cases of the event that the instruction reports, such as a requested or
+-- printed byte.
 
 -- An instruction that uses no device, or only the writer, keeps `Progress`.
 quiet : (start : List ℕ → World) (old now new : Devices) (count : ℕ) (x x' : Exchanged) (peaks : Option Peaks) (machine machine' : State) (event : Event) (s : State) (more : List ℕ)
@@ -119,7 +120,8 @@ quiet start old now new count x x' peaks machine machine' event s more p step is
 given_running : (s : State) (byte : Option ℕ) → s.phase ≡ Waiting → (given s byte).phase ≡ Running
 given_running s byte waiting = ap (λ q. (given_in q s byte).phase) waiting
 
--- `Took` describes the state of machine and devices before a byte was taken from the input, if `rest` remains after it.
+-- `Took` describes the state of machine and devices before an instruction took a byte from the input, where `rest` is
+-- the input after this byte.
 pub record Took (start : List ℕ → World) (count : ℕ) (peaks : Option Peaks) (machine : State) (output read : List ℕ) (byte : Option ℕ) (rest : List ℕ) : Type 0 where
   pub before : List ℕ
   pub runs : Way peaks count (start (read ++ rest)) (record { machine = machine; output = output; input = before })
@@ -230,7 +232,7 @@ progress_between start old count (suc more) machine machine' before after p (mid
     let last = Progress-turn start old (devices_of between) (devices_of after) (count + more) between.counts after.counts None mid machine' so_far (event, s, step, went_on event s machine' between after exchanges) in
     subst (λ (k : ℕ). Progress start old (devices_of after) k after.counts None machine') (let all : count + more + 1 ≡ count + suc more = omega arith in all) last
 
--- A failed call of a device keeps the progress of the run so far.
+-- If the input and the output of the devices do not change, as in a failed call of a device, `Progress` stays true.
 progress_kept : (start : List ℕ → World) (old now new : Devices) (count : ℕ) (x : Exchanged) (peaks : Option Peaks) (machine : State) → Progress start old now count x peaks machine → Rests now new → Progress start old new count x peaks machine
 progress_kept start old now new count x peaks machine p (kept, silent) = record {
   read = p.read;
@@ -291,7 +293,7 @@ executes_of start old now count x peaks machine p = record {
   written = p.printed;
 }
 
--- If the reader and the writer are not used afterwards, the statement about the executed instructions stays true.
+-- If the reader and the writer are not used afterwards, the statement `Executes` about the instructions executed so far stays true.
 executes_kept : (start : List ℕ → World) (old now new : Devices) (count : ℕ) (w : World) → Executes start old now count w → Rests now new → Executes start old new count w
 executes_kept start old now new count w x (kept, silent) = record {
   input = x.input;

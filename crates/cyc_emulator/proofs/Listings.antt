@@ -24,5 +24,3 @@ pub segment_exit : {A E : Type 0} (s : SegmentContents) (count n : ℕ) (a b c :
 segment_exit s count n a b c r is below err taken then =
     subst (λ t. TakesText a t r c) (flat_map-range_in_three (segment_line s) count n below ∙ sym (segment_lines-all s count is))
     (TakesText_exit a b c (flat_map (segment_line s) (range_with_len 0 n)) (segment_line s n) (flat_map (segment_line s) (range_with_len (n + 1) (count - (n + 1)))) r err taken then)
-
--- The parts of a list are written one after another.

@@ -91,7 +91,7 @@ abbrev pub limit_at : Stop → Core → Option Limit
 limit_at (stops.End ends.Full) core = if register core SERVICE == END_FULL then Some Calls else Some Pages
 limit_at stop core = None
 
--- `StandsAt` says that the address and the limit in a report are right for this state of the machine.
+-- `StandsAt` says that the instruction address and the limit reached, as a report states them, are right for this state of the machine.
 abbrev pub StandsAt : Report → World → Type 0
 StandsAt report w = (report.counter ≡ w.machine.core.counter) × (report.limit ≡ limit_at report.stop w.machine.core)
 
@@ -131,7 +131,7 @@ Runs grows start budget old new (Err e) = ⊥
 abbrev pub Refuses : RunFault → (old new : Devices) → Result Report RunFault → Type 0
 Refuses fault old new result = ((result ≡ Err fault) ⊎ (result ≡ Err Memory)) × Rests old new
 
--- `Starts` describes the result of running a loaded image.
+-- `Starts` describes the result of running a loaded image: lack of memory before any byte is read or written, or the result of the run.
 abbrev pub Starts : (grows : Bool) (start : List ℕ → World) (budget : ℕ) (old new : Devices) → Result Report RunFault → Type 0
 Starts grows start budget old new result = ((result ≡ Err Memory) × Rests old new) ⊎ Runs grows start budget old new result
 

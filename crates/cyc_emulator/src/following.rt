@@ -19,7 +19,8 @@ pub const MOST_REPORTED: usize = 32;
 /// The number of instructions before the stop that the first attempt of a replay executes one at a time.
 const FIRST_WINDOW: u64 = 10_000;
 
-/// The factor by which the instructions replayed one at a time become more, if the exception was first thrown before these instructions.
+/// The factor by which the number of instructions replayed one at a time is increased, if the exception was first thrown before these
+/// instructions.
 const WIDER: u64 = 32;
 
 /// The number of bytes of a stack frame.
@@ -31,8 +32,9 @@ const PUSH_FRAME: u32 = 0x27bd_fc00;
 /// The machine word of `addiu $29, $29, 1024`, with which a function removes its frame.
 const POP_FRAME: u32 = 0x27bd_0400;
 
-/// The machine word of `lw $31, 8($25)`, the first instruction of a throw to a handler. From this instruction on, register 31
-/// belongs to the handler, and then register 29 does.
+/// The machine word of `lw $31, 8($25)`, the first instruction of a throw to a handler. This instruction replaces the return
+/// address in register 31 by the address of the handler's code. The instruction after it replaces the stack pointer, register
+/// 29, by that of the call with the handler.
 const THROW: u32 = 0x8f3f_0008;
 
 /// The number of machine words of a throw to a handler: `lw $31, 8($25)`, `lw $29, 4($25)`, `jr $31` and `lw $25, 0($25)`.
@@ -44,7 +46,7 @@ const SAVE: u32 = 0xafbf_0000;
 /// The most words from a function's entry up to the instruction that saves its return address.
 const MOST_ENTRY: u32 = 5;
 
-/// The most words of a call, a return or a throw between the instruction that changes the frame and the jump.
+/// The most machine words between the instruction of a call, a return or a throw that changes the stack frame, and its jump.
 const MOST_BETWEEN: u32 = 1024;
 
 /// The machine-code address at which a run stopped, with the addresses of the active calls.
@@ -59,12 +61,12 @@ pub struct Trail {
     pub others: u32,
 }
 
-/// Returns the part of the source program for which the machine word at an address was made.
+/// Returns the construct of the source program, or the code added by the compiler, to which the machine word at an address belongs.
 fn source_at(stretches: &[Stretch], address: u32) -> Option<Source> {
     Some(stretch_at(stretches, address)?.source)
 }
 
-/// Returns true if both functions are the same, or both are `None`.
+/// Returns true if two optional function indices are equal, or both are `None`.
 fn is_same_function(one: Option<usize>, other: Option<usize>) -> bool {
     match (one, other) {
         (Some(one), Some(other)) => one == other,
@@ -73,7 +75,7 @@ fn is_same_function(one: Option<usize>, other: Option<usize>) -> bool {
     }
 }
 
-/// Returns the entries of the functions: for each function, its first range of machine code (stretch) that has words.
+/// Returns, for each function, its first range of machine code (stretch) that has words, where the function is entered.
 fn entries_of(alloc: Global, stretches: &[Stretch]) -> Result<Vec<Stretch>, AllocError> {
     let mut entries = Vec::new(alloc);
     let mut last = None;
@@ -126,8 +128,8 @@ fn is_leaving<S: Store + Drop>(machine: &Machine<S>, address: u32) -> bool {
     false
 }
 
-/// The data for a replay: the ranges of the machine code (stretches) with the source constructs they were
-/// made for, and the entries of the functions.
+/// The data for a replay: the ranges of the machine code (stretches), each with the source construct for
+/// which it was made, and the first range of each function.
 #[derive(Clone, Copy)]
 struct Map<'a> {
     stretches: &'a [Stretch],
@@ -154,7 +156,7 @@ impl Map<'_> {
             }
             let word = machine.word(before).unwrap_or(0);
             if let Some(change) = change_by(word) {
-                // If a frame was made in a delay slot, it belonged to the target of the jump, which has returned.
+                // A stack frame made in the delay slot of a jump belonged to the function to which the jump went, which has returned.
                 let is_in_slot = has_slot(machine.word(before.wrapping_sub(4)).unwrap_or(0));
                 return if is_in_slot { Change::Nothing } else { change };
             }
@@ -324,8 +326,8 @@ struct Input<'a> {
     next: usize,
 }
 
-/// Handles an event of an instruction: supplies the next byte of the input if one is requested. A replay ignores output, since the first
-/// run has printed it.
+/// Handles the event that an instruction reports: supplies the next byte of the input if one is requested. A replay ignores output,
+/// since the first run has printed it.
 fn answer<S: Store + Drop>(machine: &mut Machine<S>, event: Event, input: &mut Input<'_>) {
     if let Event::WantsByte = event {
         let byte = input.bytes.get(input.next).copied();

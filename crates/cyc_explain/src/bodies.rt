@@ -1,5 +1,5 @@
-//! This file explains a fault in a function's body. The scope at the fault is the scope at which the checker stopped. The
-//! declarations, statements and expressions of a function's body are examined in the order of the text, each after its parts.
+//! This file explains a fault in a function's body. The names and regions in scope at the fault are those at which the checker stopped. The
+//! declarations, statements and expressions of a function's body are examined in the order of the text, each after its subexpressions.
 use crate::calls::explain_call;
 use crate::expressions::{
     explain_address, explain_binary, explain_chain, explain_key, explain_name, explain_place,
@@ -77,7 +77,7 @@ fn explain_at_fault(
     explain_forms(teller, scope, declarations, &forms);
 }
 
-/// Notes the regions and names of a function's signature, and declares its parameters.
+/// Records, for the explanation, the regions and names of a function's signature, and declares its parameters in the scope.
 fn note_head(teller: &mut Teller, names: &RegionNames, name: Ident, members: &[Member]) {
     teller.notes.function = name.name.number;
     teller.notes.homes.add_parameters(names, name, members);
@@ -88,7 +88,7 @@ fn note_head(teller: &mut Teller, names: &RegionNames, name: Ident, members: &[M
     }
 }
 
-/// Explains the fault in the forms (declarations, statements and expressions) of a body, which are listed last one first.
+/// Explains the fault in the declarations, statements and expressions of a function's body; the list has them in reverse order of the text.
 fn explain_forms(
     teller: &mut Teller,
     scope: &mut Scope<'_>,
@@ -124,7 +124,7 @@ fn explain_form(
     }
 }
 
-/// Adds the region of a block to the regions known to the explanation.
+/// Adds the region of a block to the regions that the explanation can name.
 fn explain_begin(teller: &mut Teller, label: Option<Ident>, span: Span) {
     match label {
         Some(label) => add_region(teller, label, Origin::Block),
@@ -187,7 +187,7 @@ fn explain_region_item(
     }
 }
 
-/// Adds a region with a name, which must be new.
+/// Adds a region to those that the explanation can name; explains the fault if the region's name is already declared.
 fn add_region(teller: &mut Teller, name: Ident, origin: Origin) {
     explain_region_twice(teller, name);
     teller.notes.homes.add(Some(name), name.span, origin);
@@ -221,7 +221,8 @@ fn explain_clause(teller: &mut Teller, scope: &Scope<'_>, clause: &Clause) {
 
 // ---- expressions
 
-/// Explains a violated requirement of an expression's own form, apart from the requirements of its parts and on its value.
+/// Explains a violated requirement of an expression's own form, in contrast to a violated requirement of its
+/// subexpressions or on its value.
 fn explain_expression(
     teller: &mut Teller,
     scope: &mut Scope<'_>,
@@ -248,7 +249,7 @@ fn explain_expression(
     }
 }
 
-/// Explains a fault in an expression of a form that puts no requirement on the types of its parts.
+/// Explains a fault inside an expression of a form that itself puts no requirement on the types of its subexpressions.
 fn explain_plain(teller: &mut Teller, scope: &Scope<'_>, expression: &Expr) {
     match expression {
         Expr::UniqueRegion { span } => teller.tell(Message::UniqueRegionAlone, *span),

@@ -18,7 +18,8 @@ use std::mem::ManuallyDrop;
 
 // ---- regions of the call
 
-/// Notes the name of a called function, its regions as its own signature names them, and the name of its parameter with this index.
+/// Records, for the explanation, the name of a called function, its regions as its own signature names them, and the name of its
+/// parameter with this index.
 fn note_theirs(
     teller: &mut Teller,
     declarations: &[Declaration],
@@ -47,7 +48,7 @@ fn note_theirs(
     }
 }
 
-/// Returns the region in `given` that corresponds to the first occurrence of a region variable in `variables`.
+/// Returns the region in the list `given` at the index of the first occurrence of a region variable in the list `variables`.
 fn region_among(variables: &[Region], given: &[Region], variable: Region) -> Option<Region> {
     let mut found = None;
     for i in 0..variables.len() {
@@ -58,7 +59,7 @@ fn region_among(variables: &[Region], given: &[Region], variable: Region) -> Opt
     found
 }
 
-/// Returns the region of an argument's type that corresponds to a region variable in a parameter's type.
+/// Returns the region in an argument's type that stands where the parameter's type has the given region variable.
 fn region_in(parameter: &Ty, given: &Ty, variable: Region) -> Option<Region> {
     match (parameter, given) {
         (
@@ -105,7 +106,7 @@ fn region_given(parameters: &[Ty], values: &[ValueType], variable: Region) -> Re
     found.unwrap_or(Region::Heap)
 }
 
-/// Returns the regions that a call with these values binds to the region variables of the function.
+/// Returns the regions that a call with these argument values binds to the region variables of the called function.
 fn instance_of(alloc: Global, signature: &Signature, values: &[ValueType]) -> Vec<Region> {
     let mut instance = Vec::new(alloc);
     for number in 0..signature.variables.saturating_add(1) {
@@ -140,7 +141,7 @@ fn name_of(homes: &Homes, region: Region) -> Option<usize> {
     }
 }
 
-/// Writes the region of the caller that takes the place of a region of the called function.
+/// Adds to the explanation which region of the caller takes the place of a region of the called function.
 fn say_here(teller: &mut Teller, own: Region, here: Region) {
     teller.notes.their_regions.0 = own;
     teller.notes.regions.0 = here;
@@ -175,7 +176,7 @@ fn explain_constraint(
     }
 }
 
-/// Writes the effect of a function, which is the set of regions that it may access.
+/// Adds to the explanation the effect of a function, which is the set of regions that it may access.
 fn say_effect(teller: &mut Teller, effect: &[Region]) {
     teller.say(Message::Effect);
     let mut is_first = true;
@@ -218,7 +219,7 @@ fn explain_argument(
     instance: &[Region],
 ) {
     if teller.want_type(parameter.substituted(teller.alloc, instance).ok()) {
-        // The declaration of a built-in function names no parameters.
+        // The declaration of a built-in function does not name its parameters, so the message does not name the parameter.
         let lead = if teller.notes.name == NO_NAME {
             Message::OtherType
         } else {
@@ -232,7 +233,7 @@ fn explain_argument(
     }
 }
 
-/// Explains a violated constraint of a function, given the regions bound to the function's region variables.
+/// Explains a constraint of a called function that is violated, given the regions that the call binds to the function's region variables.
 fn explain_constraints(
     teller: &mut Teller,
     scope: &Scope<'_>,
@@ -246,7 +247,8 @@ fn explain_constraints(
     }
 }
 
-/// Explains a violated effect of a function, given the regions bound to the function's region variables.
+/// Explains a region in the effect of a called function that is not live, given the regions that the
+/// call binds to the function's region variables.
 fn explain_effects(
     teller: &mut Teller,
     scope: &Scope<'_>,
@@ -260,7 +262,7 @@ fn explain_effects(
     }
 }
 
-/// Explains a fault in a call of a function with this signature and these values, or in the call's argument with this index.
+/// Explains a fault in a call of a function with this signature and these argument values, or in the call's argument with this index.
 fn explain_called(
     teller: &mut Teller,
     scope: &Scope<'_>,
@@ -284,7 +286,7 @@ fn explain_called(
     }
 }
 
-/// Writes the head of a function as it is declared; a built-in function has no declaration.
+/// Adds to the explanation the head of a function as it is declared; a built-in function has no declaration.
 fn say_declared(teller: &mut Teller, declarations: &[Declaration], function: Ident) {
     for declaration in declarations {
         if let Declaration::Function {
@@ -306,7 +308,7 @@ fn say_declared(teller: &mut Teller, declarations: &[Declaration], function: Ide
     teller.say(Message::PassSo);
 }
 
-/// Explains a wrong number of arguments.
+/// Explains a call whose number of arguments differs from the number of the function's parameters.
 fn explain_number(
     teller: &mut Teller,
     declarations: &[Declaration],

@@ -1,4 +1,4 @@
-//! This file explains a fault in a program.
+//! This file computes the explanation of a fault in a rejected program.
 use crate::bodies::explain_body;
 use cyc_explain_texts::Explanation;
 use cyc_explain_texts::declarations::explain_declarations;

@@ -1,4 +1,4 @@
-//! This file explains violated requirements of expressions on their parts.
+//! This file explains faults in which an expression violates a requirement on its subexpressions.
 use crate::types::find;
 use cyc_check::value_type;
 use cyc_explain_texts::messages::Message;
@@ -15,7 +15,7 @@ use cyc_words::{Code, Span};
 
 // ---- names and places
 
-/// Explains a name that denotes no value, or whose value cannot be read.
+/// Explains the fault at a name that denotes no value, or at a variable whose value may not be read there.
 pub(crate) fn explain_name(teller: &mut Teller, scope: &Scope<'_>, name: Ident) {
     match scope.meaning(name) {
         Meaning::Unknown => {
@@ -43,7 +43,7 @@ pub(crate) fn explain_key(teller: &mut Teller, scope: &Scope<'_>, name: Ident) {
     }
 }
 
-/// Explains an expression that is not an lvalue.
+/// Explains the fault that an expression is not an lvalue although an lvalue is required.
 pub(crate) fn explain_place(teller: &mut Teller, scope: &Scope<'_>, expression: &Expr) {
     let span = span_of(expression);
     if teller.is_fault(Code::NotAPlace, span) {
@@ -68,7 +68,7 @@ fn message_on_value(expression: &Expr) -> Message {
     }
 }
 
-/// Returns the function that an expression calls.
+/// Returns the name of the function that an expression calls, if the expression is a call.
 fn called(expression: &Expr) -> Option<Ident> {
     match expression {
         Expr::Bracketed { inner, .. } => called(inner),
@@ -86,7 +86,7 @@ fn message_on_place(meaning: Meaning<'_>) -> Message {
     }
 }
 
-/// Returns the variable that an lvalue denotes, or through which it is reached.
+/// Returns the variable that an lvalue denotes, or from which the lvalue is reached through pointers and fields.
 fn root_of(expression: &Expr) -> Option<Ident> {
     match expression {
         Expr::Variable { name } => Some(*name),
@@ -101,7 +101,7 @@ fn root_of(expression: &Expr) -> Option<Ident> {
     }
 }
 
-/// Explains an lvalue whose address must not be taken.
+/// Explains the fault that the address of an lvalue is taken although this is not allowed.
 pub(crate) fn explain_address(teller: &mut Teller, scope: &Scope<'_>, operand: &Expr) {
     let span = span_inside(operand);
     explain_place(teller, scope, operand);
@@ -159,7 +159,7 @@ fn type_after(scope: &Scope<'_>, pointer: &Option<ValueType>, field: Option<Iden
     }
 }
 
-/// Continues from the pointer found to its target, or to a field of the target, and explains a fault in reading it.
+/// Continues from the pointer type found so far to the type of its target, or of a field of the target, and explains a fault in reading it.
 fn explain_after(teller: &mut Teller, scope: &Scope<'_>, start: Span, field: Option<Ident>) {
     let following = type_after(scope, &teller.notes.found, field);
     if teller.find_type(following) {
@@ -177,7 +177,7 @@ fn field_of(postfix: &Postfix) -> Option<Ident> {
     }
 }
 
-/// Explains violated requirements of the postfix operators after an operand, in order.
+/// Explains violated requirements of the postfix operators (fields and indices) after an operand, in the order of the text.
 pub(crate) fn explain_chain(
     teller: &mut Teller,
     scope: &mut Scope<'_>,
@@ -195,7 +195,7 @@ pub(crate) fn explain_chain(
     }
 }
 
-/// Returns true if the fault is at the beginning of a chain of postfix operators, or at a field's name in it.
+/// Returns true if the fault is at the beginning of an operand with postfix operators, or at the name of a field in one of these operators.
 fn is_in_chain(teller: &Teller, start: Span, postfixes: &[Postfix]) -> bool {
     let mut is_here = teller.is_at(start);
     for postfix in postfixes {
@@ -206,8 +206,8 @@ fn is_in_chain(teller: &Teller, start: Span, postfixes: &[Postfix]) -> bool {
     is_here
 }
 
-/// Explains a violated requirement of a postfix operator (a field or an index) on the pointer found and on its target. The pointer's
-/// target then becomes the value found, from which the next operator continues.
+/// Explains a violated requirement of a postfix operator (a field or an index) on the pointer to its left and on the pointer's
+/// target. The type of the target, or of its field, then becomes the type from which the next operator continues.
 fn explain_postfix(teller: &mut Teller, scope: &Scope<'_>, start: Span, field: Option<Ident>) {
     match field {
         Some(name) => {
@@ -230,8 +230,8 @@ fn explain_field_name(teller: &mut Teller, scope: &Scope<'_>, name: Ident) {
 
 // ---- binary operators
 
-/// Explains violated requirements of the operators of a chain on the value to the left of each operator. All results except pointer
-/// sums are ints.
+/// Explains violated requirements of each operator in a chain of binary operators on the value to its left. The result of each
+/// operator is an int, except that of a sum with a pointer.
 pub(crate) fn explain_binary(
     teller: &mut Teller,
     scope: &mut Scope<'_>,
@@ -247,8 +247,8 @@ pub(crate) fn explain_binary(
     }
 }
 
-/// Explains a violated requirement of an operation on its left operand, in a chain that begins at this source position. The
-/// operation's own type then becomes the type found.
+/// Explains a violated requirement of an operation on its left operand, in a chain of binary operators that begins at this
+/// source position. The result type of the operation then becomes the type of the next operation's left operand.
 fn explain_operation(
     teller: &mut Teller,
     scope: &mut Scope<'_>,

@@ -1,4 +1,4 @@
-//! This file explains violated requirements of declarations and statements on their parts.
+//! This file explains faults in which a declaration or statement violates a requirement on its expressions.
 use crate::expressions::{explain_key, explain_name, explain_place};
 use cyc_check::place_type;
 use cyc_explain_texts::messages::Message;
@@ -70,7 +70,7 @@ pub(crate) fn explain_swap(teller: &mut Teller, scope: &mut Scope<'_>, left: &Ex
 
 // ---- items
 
-/// Returns a written type in which each omitted region is replaced by `left_out`.
+/// Returns the type that a type written in the program denotes, in which the region `left_out` replaces each omitted region.
 pub(crate) fn type_here(scope: &Scope<'_>, written: &WrittenType, left_out: Region) -> Option<Ty> {
     let (structs, names) = (scope.structs(), scope.names());
     type_written(scope.alloc(), structs, names, left_out, written).ok()
@@ -84,7 +84,7 @@ pub(crate) fn explain_written_here(teller: &mut Teller, scope: &Scope<'_>, writt
     }
 }
 
-/// Explains a fault in a region opened by a key.
+/// Explains a fault in a declaration that opens a dynamic region by its key.
 pub(crate) fn explain_opened(teller: &mut Teller, scope: &Scope<'_>, region: Ident, key: Ident) {
     teller.notes.other = key.name.number;
     teller.tell_name(Message::KeyOfAnother, region);

@@ -67,7 +67,7 @@ fn explain_converted(teller: &mut Teller, scope: &mut Scope<'_>, role: &Role<'_>
     }
 }
 
-/// Returns the message that tells for which purpose a value is used, and notes the names for the message.
+/// Returns the message that tells for which purpose a value is used, and records the names that the message contains.
 fn note_target(notes: &mut Notes, scope: &Scope<'_>, role: &Role<'_>) -> Message {
     match role {
         Role::Local(name, _) => {
@@ -85,7 +85,7 @@ fn note_target(notes: &mut Notes, scope: &Scope<'_>, role: &Role<'_>) -> Message
     }
 }
 
-/// Returns the message about a value assigned to this lvalue, and notes the names for the message.
+/// Returns the message about a value assigned to this lvalue, and records the names that the message contains.
 fn note_assigned(notes: &mut Notes, target: &Expr) -> Message {
     match target {
         Expr::Bracketed { inner, .. } => note_assigned(notes, inner),
@@ -113,7 +113,8 @@ fn only_name(base: &Expr, postfixes: &[Postfix]) -> Option<Ident> {
     }
 }
 
-/// Notes the name to which a message refers, and returns the message; if there is no name, returns `Nothing`.
+/// Records, for the explanation, the name to which a message refers, and returns the message; if there is no
+/// name, returns the empty message `Nothing`.
 fn note_name(notes: &mut Notes, name: Option<Ident>, message: Message) -> Message {
     match name {
         Some(name) => {

@@ -70,7 +70,8 @@ pub fn explain_closed(teller: &mut Teller, scope: &Scope<'_>, span: Span) {
 
 // ---- regions that do not outlive others
 
-/// Returns the message that tells where a region comes from, such as a block or the caller, or `None` if only its name is known.
+/// Returns the message that tells where a region comes from, such as a block or the caller. The result is `None` for a region
+/// without a name or of unknown origin.
 fn beginning_of(region: Region, home: Option<Home>) -> Option<Message> {
     match home {
         Some(home) => match home.origin {
@@ -87,7 +88,7 @@ fn beginning_of(region: Region, home: Option<Home>) -> Option<Message> {
     }
 }
 
-/// Writes where a region comes from, introduced by the message `mark`. Returns true if it is known where the region comes from.
+/// Writes, after the message `mark` that introduces it, where a region comes from. Returns true if it is known where the region comes from.
 fn say_beginning(teller: &mut Teller, mark: Message, region: Region) -> bool {
     let home = teller.notes.homes.find(region);
     let beginning = beginning_of(region, home);
@@ -105,7 +106,7 @@ fn say_beginning(teller: &mut Teller, mark: Message, region: Region) -> bool {
     }
 }
 
-/// Writes, on a separate line, that `region` does not outlive `other`, where the two regions begin, and then the advice.
+/// Writes, on a separate line, that `region` does not outlive `other`, where each of these regions begins, and then the advice.
 pub fn say_shorter(teller: &mut Teller, region: Region, other: Region) {
     teller.notes.regions = (region, other);
     teller.say(Message::NotOutlived);
@@ -168,7 +169,7 @@ fn advice_between(home: Home, other: Home) -> Message {
 
 // ---- conversions
 
-/// Returns true if two types are equal when regions are ignored.
+/// Returns true if two types are equal when their regions are ignored.
 fn has_shape(of_type: &Ty, wanted: &Ty) -> bool {
     match (of_type, wanted) {
         (Ty::Int, Ty::Int)
@@ -194,7 +195,7 @@ fn has_shape(of_type: &Ty, wanted: &Ty) -> bool {
     }
 }
 
-/// Returns a second message about a value whose type differs from the required type.
+/// Returns a second message, after the one about the conversion, about a value whose type differs from the required type.
 fn more_on(given: Given<'_>, wanted: &Ty) -> Message {
     match (given, wanted) {
         (Given::Void, _) => Message::VoidUsed,
@@ -214,8 +215,8 @@ fn more_on(given: Given<'_>, wanted: &Ty) -> Message {
     }
 }
 
-/// Returns a second message about pointers with different target types. The pointer kinds (`*`, `@` or `?`) of the outer pointer types
-/// do not matter, because only the targets cannot be converted.
+/// Returns a second message, after the first, about pointers with different target types. The pointer kinds (`*`, `@` or `?`) of the
+/// outer pointer types do not matter, because only the targets cannot be converted.
 fn more_on_targets(target: &Ty, wanted: &Ty) -> Message {
     match (target, wanted) {
         _ if has_shape(target, wanted) => Message::OtherRegions,
@@ -256,8 +257,8 @@ fn is_named(homes: &Homes, region: Region) -> bool {
     }
 }
 
-/// Returns the advice about a value whose type differs from the required type, from the first message and the second one, if
-/// there is a second.
+/// Returns the advice about a value whose type differs from the required type, chosen by the first and, if there is one, the
+/// second message.
 fn better(notes: &Notes, lead: Message, more: Message) -> Message {
     match more {
         Message::OtherRegions | Message::OtherTarget => better_on_regions(notes, lead, more),
@@ -280,8 +281,8 @@ fn struct_after(value: &Option<ValueType>) -> Option<usize> {
     }
 }
 
-/// Returns true if the required type is that of a new struct. Also returns true if a value for a field of a new struct points to the
-/// same new struct.
+/// Returns true if a newly made struct, with only the heap as region arguments, is used where a pointer to a struct is required.
+/// Also returns true if the value for a field of a new struct points to a struct of the same name.
 fn is_of_new(notes: &Notes, lead: Message) -> bool {
     match lead {
         Message::FieldType => struct_after(&notes.found).is_some_and(|number| notes
@@ -292,7 +293,7 @@ fn is_of_new(notes: &Notes, lead: Message) -> bool {
     }
 }
 
-/// Returns true if a pointer points to a struct whose region arguments are all the heap, as they are when omitted.
+/// Returns true if a pointer points to a struct whose region arguments are all the heap, as they are when the source omits them.
 fn is_of_heap(value: &Option<ValueType>) -> bool {
     match value {
         Some(
@@ -328,7 +329,7 @@ fn struct_of(of_type: &Ty) -> Option<usize> {
     }
 }
 
-/// Returns true if two types are pointers of any kind whose targets are equal when regions are ignored.
+/// Returns true if both types are pointer types, of any pointer kind (`*`, `@` or `?`), whose targets are equal when regions are ignored.
 fn lead_alike(of_type: &Ty, wanted: &Ty) -> bool {
     match (of_type, wanted) {
         (
@@ -364,7 +365,7 @@ fn is_of_other_mark(notes: &Notes) -> bool {
     }
 }
 
-/// Returns the advice about types whose targets or inner regions differ.
+/// Returns the advice about pointer types whose targets, or whose regions inside the targets, differ.
 fn better_on_regions(notes: &Notes, lead: Message, more: Message) -> Message {
     let is_written = match &notes.found {
         Some(ValueType::Value { of_type }) => has_names(&notes.homes, of_type),
@@ -405,7 +406,8 @@ fn better_on_null(notes: &Notes, lead: Message) -> Message {
     }
 }
 
-/// Returns the code of the typing rule that converting the found type to the required type violates, and a second message about the types.
+/// Returns the code of the typing rule that converting the found type to the required type violates, with a further message about these
+/// types.
 fn broken(notes: &Notes, scope: &Scope<'_>, span: Span) -> Option<(Code, Message)> {
     if let Some(ValueType::Value { of_type }) = &notes.wanted {
         let found = given(&notes.found);

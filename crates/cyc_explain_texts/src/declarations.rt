@@ -146,7 +146,7 @@ fn explain_constrained(teller: &mut Teller, region: Ident) {
     teller.tell_name(Message::NoConstraint, region);
 }
 
-/// Returns the message about the part of a declaration of `main` that the rules forbid.
+/// Returns the message about a declaration of `main`, chosen by which of its features (parameters, effect, result type) the rules forbid.
 fn message_on_main(returned: &Option<WrittenType>, parameters: &Parameters) -> Message {
     if !members(parameters).is_empty() {
         Message::MainParameters

@@ -1,7 +1,7 @@
 //! The explanation of a fault: text lines and a source position.
 use cyc_words::Span;
 
-/// The explanation of a fault, as text lines, with the last source position that they mention.
+/// The explanation of a fault, as text lines, with the last source position that these lines mention.
 #[derive(Drop)]
 pub struct Explanation {
     /// The lines state the violated rule with the names, types or regions involved; the last line has no line feed. If the last line

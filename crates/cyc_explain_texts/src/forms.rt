@@ -1,5 +1,5 @@
-//! The forms of a function's body (declarations, statements, expressions) as a list in source order, each form after its parts. Code that
-//! visits the list of forms needs no recursion.
+//! The syntactic forms of a function's body (declarations, statements, expressions) as a list in source order, each after its components.
+//! Code that visits the list of forms needs no recursion.
 use crate::wanted::{Wanted, wanted_by, wanted_of};
 use cyc_operands::span_of;
 use cyc_syntax::{
@@ -8,7 +8,7 @@ use cyc_syntax::{
 use cyc_words::Span;
 use std::alloc::Global;
 
-/// A number larger than the number of forms in any source text.
+/// A number larger than the number of syntactic forms (declarations, statements, expressions) in any source text.
 const MOST: usize = 1_000_000;
 
 /// The use of an expression's value, such as an operand or a call argument.
@@ -28,7 +28,7 @@ pub enum Role<'b> {
 }
 
 impl Role<'_> {
-    /// Returns true if the way in which a value is used puts a requirement on it.
+    /// Returns true if this use of a value puts a requirement on the value.
     pub fn is_asked(&self) -> bool {
         !matches!(self, Role::Operand(Wanted::Nothing))
     }
@@ -42,15 +42,15 @@ impl Role<'_> {
     }
 }
 
-/// A form of a function's body (a declaration, statement or expression) that may have
-/// requirements; the form's parts are separate list entries.
+/// A syntactic form of a function's body (a declaration, statement or expression) that may have requirements. The subexpressions and
+/// substatements of a form are separate list entries.
 #[derive(Clone, Copy)]
 pub enum Form<'b> {
     Expression {
         expression: &'b Expr,
         role: Role<'b>,
     },
-    /// A statement, and the end of the enclosing block; the end is `None` for a function's body.
+    /// A statement, with the source position of the end of the enclosing block, or `None` directly in a function's body.
     Statement {
         statement: &'b Stmt,
         end: Option<Span>,
@@ -59,33 +59,33 @@ pub enum Form<'b> {
         item: &'b Item,
         end: Option<Span>,
     },
-    /// The start of the declarations and statements of a block.
+    /// A list entry that marks the start of the declarations and statements of a block.
     Items {
         items: &'b Vec<Item>,
     },
-    /// The start of the declarations and statements of a catch clause.
+    /// A list entry that marks the start of the declarations and statements of a catch clause.
     Clause {
         clause: &'b Clause,
     },
-    /// The beginning of a block, with the block's label and its source position.
+    /// A list entry that marks the beginning of a block, with the block's label and its source position.
     Begin {
         label: Option<Ident>,
         span: Span,
     },
 }
 
-/// The list of a body's forms while it is being built.
+/// The list of the syntactic forms (declarations, statements, expressions) of a function's body while it is being built.
 #[derive(Drop)]
 pub struct Forms<'b> {
-    /// The forms that still have to be split into their parts; the next form to split is the last.
+    /// The syntactic forms that still have to be split into their components; the next form to split is the last.
     pending: Vec<Form<'b>>,
-    /// The forms that were already split: each form precedes its parts, and the parts are listed from last to first.
+    /// The syntactic forms that were already split: each form precedes its components, and the components are listed from last to first.
     pub listed: Vec<Form<'b>>,
-    /// True if memory never ran out, so the list lacks no form.
+    /// True if memory never ran out while the list was built, so that it lacks no declaration, statement or expression.
     pub is_whole: bool,
 }
 
-/// Returns the list of the forms of a function's body.
+/// Returns the list of the syntactic forms (declarations, statements, expressions) of a function's body.
 pub fn forms_of<'b>(alloc: Global, body: &'b Block) -> Forms<'b> {
     let mut forms = Forms {
         pending: Vec::new(alloc),
@@ -102,7 +102,7 @@ pub fn forms_of<'b>(alloc: Global, body: &'b Block) -> Forms<'b> {
 }
 
 impl<'b> Forms<'b> {
-    /// Moves the next pending form, if there is one, to the list, and adds its parts to the pending forms.
+    /// Moves the next syntactic form to be split, if there is one, to the list, and adds its components to the forms to be split.
     fn take_next(&mut self) -> bool {
         match self.pending.pop() {
             Some(form) => {
@@ -114,7 +114,7 @@ impl<'b> Forms<'b> {
         }
     }
 
-    /// Adds the parts of a form to the pending forms.
+    /// Adds the components of a syntactic form to the forms that are still to be split.
     fn add_parts_of(&mut self, form: &Form<'b>) {
         match form {
             Form::Expression { expression, .. } => self.add_parts(expression),
@@ -137,7 +137,7 @@ impl<'b> Forms<'b> {
         }
     }
 
-    /// Adds the parts of a declaration or statement to the pending forms.
+    /// Adds the components of a declaration or statement to the forms that are still to be split.
     fn add_in_item(&mut self, item: &'b Item, end: Option<Span>) {
         match item {
             Item::Statement { statement } => self.add_statement(statement, end),
@@ -156,7 +156,7 @@ impl<'b> Forms<'b> {
         self.add(Form::Statement { statement, end });
     }
 
-    /// Adds the parts of a statement to the pending forms.
+    /// Adds the components of a statement, such as its expressions and substatements, to the forms that are still to be split.
     fn add_inner(&mut self, statement: &'b Stmt, end: Option<Span>) {
         match statement {
             Stmt::If {
@@ -195,7 +195,7 @@ impl<'b> Forms<'b> {
         }
     }
 
-    /// Adds the parts of a block, or of a statement that contains no other statement, to the pending forms.
+    /// Adds the components of a block, or of a statement that contains no other statement, to the forms that are still to be split.
     fn add_plain(&mut self, statement: &'b Stmt) {
         match statement {
             Stmt::Block { block } => self.add_block(None, block),
@@ -229,8 +229,8 @@ impl<'b> Forms<'b> {
         }
     }
 
-    /// Adds the declarations and statements of a default clause to the pending forms; `around` is the position of the
-    /// statement that has the clause.
+    /// Adds the declarations and statements of a default catch clause to the forms still to be split. `around` is the
+    /// source position of the statement that has the default clause.
     fn add_default(&mut self, items: &'b Vec<Item>, around: Span, end: Option<Span>) {
         self.add_begin(None, start_of(items, around));
         self.add_items(items, end);
@@ -250,7 +250,7 @@ impl<'b> Forms<'b> {
         self.add_expression(expression, Role::Operand(wanted));
     }
 
-    /// Adds the parts of an expression to the pending forms.
+    /// Adds the subexpressions of an expression to the forms that are still to be split.
     fn add_parts(&mut self, expression: &'b Expr) {
         match expression {
             Expr::Call {
@@ -278,7 +278,7 @@ impl<'b> Forms<'b> {
         }
     }
 
-    /// Adds the operand of an expression with exactly one operand to the pending forms.
+    /// Adds the operand of an expression with exactly one operand to the forms that are still to be split.
     fn add_only_operand(&mut self, expression: &'b Expr) {
         match expression {
             Expr::Bracketed { inner, .. } => self.add_operand(inner, Wanted::Nothing),
@@ -344,8 +344,8 @@ impl<'b> Forms<'b> {
     }
 }
 
-/// Returns the source position where the declarations and statements of a default clause begin. A default clause stores no source
-/// position, so an empty one is given the beginning of the enclosing statement.
+/// Returns the source position where the declarations and statements of a default catch clause begin. A default clause stores no
+/// source position, so an empty one is given the beginning of the enclosing statement.
 fn start_of(items: &Vec<Item>, around: Span) -> Span {
     match items.first() {
         Some(Item::Local { of_type, .. }) => of_type.span,

@@ -4,7 +4,7 @@ use cyc_types::{Region, RegionNames};
 use cyc_words::Span;
 use std::alloc::Global;
 
-/// The kind of construct that a region originates from.
+/// The kind of construct (the caller, a block, a declaration, ..) from which a region comes.
 #[derive(Clone, Copy)]
 pub enum Origin {
     /// The caller of the function provides the region.
@@ -27,11 +27,12 @@ pub struct Home {
     pub origin: Origin,
 }
 
-/// For the regions of a function that are declared before the fault, the constructs from which they come, in the order of their numbers.
+/// The constructs from which the regions of a function come, for the regions declared before the fault, in the order of the regions'
+/// numbers.
 #[derive(Drop)]
 pub struct Homes {
     pub all: Vec<Home>,
-    /// True if memory never ran out, so the list lacks no region.
+    /// True if memory never ran out while the list was built, so that it lacks no region.
     pub is_whole: bool,
 }
 
@@ -83,7 +84,7 @@ impl Homes {
         }
     }
 
-    /// Records the regions that the base of a pointer type names, before its pointer signs (`*`, `@` or `?`).
+    /// Records the regions that a pointer type names before its pointer signs (`*`, `@` or `?`), in its base type.
     fn add_base(&mut self, names: &RegionNames, base: &BaseType) {
         match base {
             BaseType::Int | BaseType::Char => {}
@@ -109,7 +110,7 @@ impl Homes {
         }
     }
 
-    /// Records where the named region comes from, unless the name is predefined or already known.
+    /// Records where the region with the given name comes from, unless the name is predefined or its region is already recorded.
     fn add_named(&mut self, names: &RegionNames, name: Ident) {
         let number = name.name.number;
         let is_fixed = matches!(names.find(number), Some(Region::Heap | Region::Unique));

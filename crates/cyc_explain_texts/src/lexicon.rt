@@ -1,12 +1,12 @@
-//! The names and structs of a program, stored apart from its tree. A struct that refers to a tree would make every function that receives
-//! it more expensive to prove.
+//! The names and structs of a program, stored apart from its syntax tree. A struct that refers to a tree would make every function that
+//! receives it more expensive to prove.
 use cyc_syntax::{Declaration, Ident, Name, Names, Tree};
 use std::alloc::Global;
 
 /// The value that stands for the absence of a name where the index of a name is expected.
 pub const NO_NAME: usize = usize::MAX;
 
-/// The beginning and end of a name's text within the common buffer.
+/// The byte offsets of the beginning and end of a name's text within the buffer that contains the texts of all names.
 #[derive(Clone, Copy)]
 struct Entry {
     start: usize,
@@ -25,7 +25,7 @@ pub struct Lexicon {
     bytes: Vec<u8>,
     entries: Vec<Entry>,
     structs: Vec<Known>,
-    /// True if memory never ran out, so that no name or struct is missing.
+    /// True if memory never ran out while the lexicon was built, so that it lacks no name or struct.
     pub is_whole: bool,
 }
 

@@ -1,5 +1,5 @@
-//! The texts of explanations, the teller that fills in and writes these texts, and the requirements that depend on no expression's
-//! type. No text in this crate depends on the order in which the checker visits a program.
+//! The texts of explanations of faults, the teller that fills in and writes these texts, and the requirements that depend on no
+//! expression's type. No text in this crate depends on the order in which the checker visits a program.
 #![tactic(auto)]
 
 pub use explanation::Explanation;

@@ -1,6 +1,6 @@
-//! The messages of explanations: the text of each message. A message that begins an explanation also has the code of its fault.
+//! The messages that explain faults: the text of each message. A message that begins an explanation also has the code of its fault.
 //!
-//! In the text of a message, a `%` and a letter form a placeholder, which is replaced by the latest recorded value (`Notes`):
+//! In the text of a message, a `%` and a letter form a placeholder, which is replaced by the value last recorded for it (`Notes`):
 //!
 //! | Placeholder | Content |
 //! |---|---|
@@ -110,7 +110,7 @@ pub enum Message {
     MainVoid,
     MainType,
 
-    // Messages that follow another message; the first of these messages are about operands.
+    // Messages that follow another message of the same explanation; the first of these messages are about operands.
     VoidUsed,
     NullAsContent,
     NullTested,

@@ -6,7 +6,7 @@ use cyc_scope::{Field, Meaning, Scope};
 use cyc_syntax::{Ident, Name};
 use cyc_words::Code;
 
-/// The way in which a name is used.
+/// The way in which a name is used, such as the name of a struct, of a value or of an exception.
 #[derive(Clone, Copy)]
 pub enum Sort {
     Value,
@@ -17,7 +17,7 @@ pub enum Sort {
     Field(usize),
 }
 
-/// Returns true if a name with this kind of use is declared.
+/// Returns true if a name that is used in this way (as a value, struct, exception, ..) is declared.
 fn is_known(scope: &Scope<'_>, sort: Sort, name: Ident) -> bool {
     let number = name.name.number;
     match sort {
@@ -60,7 +60,7 @@ pub fn is_near(a: &[u8], b: &[u8]) -> bool {
     shortest > 2 && alike.saturating_add(most) >= a.len().max(b.len())
 }
 
-/// Returns a declared name with the same kind of use and a similar text.
+/// Returns a declared name that may be used in the same way and has a similar text.
 fn near(lexicon: &Lexicon, scope: &Scope<'_>, sort: Sort, name: Ident) -> Option<Ident> {
     let text = lexicon.text(name.name.number);
     for number in 0..lexicon.len() {
@@ -77,7 +77,7 @@ fn near(lexicon: &Lexicon, scope: &Scope<'_>, sort: Sort, name: Ident) -> Option
     None
 }
 
-/// Returns the message about an undeclared name with this kind of use.
+/// Returns the message about an undeclared name that is used in this way (as a value, struct, exception, ..).
 fn message_on_unknown(sort: Sort) -> Message {
     match sort {
         Sort::Value => Message::NoName,

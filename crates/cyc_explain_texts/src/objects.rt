@@ -11,7 +11,7 @@ use cyc_types::formation::arguments_or;
 use cyc_words::Code;
 use std::mem::ManuallyDrop;
 
-/// Explains a violated requirement on the initial value after `new`, except the requirements on its parts.
+/// Explains a violated requirement on the initial value after `new`, except the requirements on its subexpressions.
 pub fn explain_made(teller: &mut Teller, scope: &Scope<'_>, initial: &Initial) {
     if let Initial::Fields {
         name,

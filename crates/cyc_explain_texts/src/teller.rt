@@ -1,4 +1,5 @@
-//! The writer of explanations. The teller writes only once, at the fault; the values of placeholders in its messages are recorded before.
+//! The writer of explanations of faults. The teller writes only once, at the fault; the values of placeholders in its messages are
+//! recorded before.
 use crate::explanation::Explanation;
 use crate::homes::Homes;
 use crate::lexicon::{Lexicon, NO_NAME};
@@ -26,12 +27,12 @@ pub struct Teller {
     pub notes: Notes,
     /// The message about a region name that is not in scope.
     pub unknown: Message,
-    /// The ends of the blocks that open a dynamic region.
+    /// The source positions of the ends of the blocks that open a dynamic region.
     pub endings: Vec<Ending>,
     pub words: Words,
     /// The names declared so far in the current scope, used to find a second declaration.
     pub declared: Vec<Ident>,
-    /// True if memory never ran out, so that the explanation is complete.
+    /// True if memory never ran out while the explanation was written, so that it is complete.
     pub is_whole: bool,
 }
 
@@ -97,7 +98,7 @@ impl Teller {
             && self.words.bytes.is_empty()
     }
 
-    /// Returns true if the fault has the given code and source position and is not explained yet.
+    /// Returns true if the fault has the given code, is at the given source position and is not explained yet.
     pub fn is_fault(&self, code: Code, span: Span) -> bool {
         self.fault.code == code && self.is_at(span)
     }
@@ -133,14 +134,14 @@ impl Teller {
 
     // ---- messages
 
-    /// Writes a message if the fault that it describes is at the given source position.
+    /// Writes a message if the fault of the text has the message's code and is at the given source position.
     pub fn tell(&mut self, message: Message, span: Span) {
         if self.is_fault(code_of(message), span) {
             self.say(message);
         }
     }
 
-    /// Writes a message about a name if the fault that it describes is at the name.
+    /// Writes a message about a name if the fault of the text has the message's code and is at the name.
     pub fn tell_name(&mut self, message: Message, name: Ident) {
         if self.is_at(name.span) {
             self.notes.name = name.name.number;
@@ -153,7 +154,7 @@ impl Teller {
         self.words.say(&self.notes, message);
     }
 
-    /// Writes a message that mentions two numbers: a required number and the number found, such as of arguments.
+    /// Writes a message that mentions two numbers: how many of something (such as arguments) are required, and how many were found.
     pub fn say_count(&mut self, message: Message, wanted: usize, found: usize) {
         self.notes.counts = (wanted, found);
         self.say(message);
@@ -176,7 +177,7 @@ impl Teller {
     }
 }
 
-/// Returns a value type with the given type, if the checker could find this type in spite of the fault.
+/// Returns a type as the type of a value, if the checker could find this type in spite of the fault.
 fn value_of(of_type: Option<Ty>) -> Option<ValueType> {
     match of_type {
         Some(of_type) => Some(ValueType::Value { of_type }),

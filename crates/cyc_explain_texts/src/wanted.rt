@@ -1,4 +1,4 @@
-//! A requirement on a single value, and the message about its violation.
+//! A requirement on a single value, such as an operand, and the message about its violation.
 use crate::conversions::explain_closed;
 use crate::homes::{Home, Origin};
 use crate::messages::Message;
@@ -13,7 +13,7 @@ use cyc_words::{Code, Span};
 
 #[derive(Clone, Copy)]
 pub enum Wanted {
-    /// No requirement is put on the value, or one that depends on more than the value.
+    /// No requirement is put on the value, or only one that depends on other values or types too.
     Nothing,
     /// The value must have a type, because it initialises a new object.
     Content,
@@ -22,7 +22,7 @@ pub enum Wanted {
     Negated,
     /// The value is a right operand of an addition.
     Added,
-    /// The value is an operand of a subtraction, or of a comparison that finds out which value is less.
+    /// The value is an operand of a subtraction, or of a comparison by order (such as `<`).
     Measured,
     /// The value is tested for zero or null.
     Tested,
@@ -169,7 +169,7 @@ pub fn wanted_by(operator: BinaryOperator) -> (Wanted, Wanted) {
     }
 }
 
-/// Returns the message about a misused region or key.
+/// Returns the message about a freed pointer that is not unique, or about a key that is stored in an object.
 fn misused(teller: &Teller, wanted: Wanted) -> Message {
     match wanted {
         Wanted::Freed => {

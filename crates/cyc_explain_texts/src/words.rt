@@ -1,5 +1,6 @@
 //! The lines of an explanation: texts whose placeholders are filled with names, source positions, regions and types in the program's
-//! notation. If memory runs out, no line is written. The writing functions in this file never fail, so callers need no error path.
+//! notation. If memory runs out, no line of the explanation is written. The writing functions in this file never fail, so callers
+//! need no error path.
 use crate::homes::{Home, Homes, Origin};
 use crate::lexicon::{Lexicon, NO_NAME};
 use crate::messages::{Message, TEXTS};
@@ -13,25 +14,25 @@ use std::mem::replace;
 
 const DIGITS: &[u8] = b"0123456789";
 
-/// The maximum number of bytes that fill a placeholder: a longer name or type is cut and ends in three dots.
+/// The maximum number of bytes that fill a placeholder: a longer name or type is truncated and ends in three dots.
 const MOST_FILLED: usize = 160;
 
-/// The maximum number of bytes that fill a placeholder once `MOST_WHOLE` bytes are written; thus lines with many placeholders stay short.
+/// The maximum number of bytes that fill a placeholder once the text has `MOST_WHOLE` bytes; thus lines with many placeholders stay short.
 const LEAST_FILLED: usize = 12;
 
-/// The number of bytes after which placeholders are limited to `LEAST_FILLED` bytes.
+/// The number of bytes of text after which placeholders are limited to `LEAST_FILLED` bytes.
 const MOST_WHOLE: usize = 1200;
 
-/// The values of the placeholders, as last recorded.
+/// The values that fill the placeholders of messages, as last recorded.
 #[derive(Drop)]
 pub struct Notes {
     pub lexicon: Lexicon,
     /// The index of the current function's name in the lexicon; `NO_NAME` if there is none.
     pub function: usize,
-    /// The regions of the current function, and the regions of the called function.
+    /// The constructs from which the regions of the current function, and of the called function, come.
     pub homes: Homes,
     pub theirs: Homes,
-    /// The index, in the lexicon, of the name that a message is about, and of a second name.
+    /// The indices, in the lexicon, of the name that a message is about and of a second name.
     pub name: usize,
     pub other: usize,
     pub place: Span,
@@ -39,14 +40,14 @@ pub struct Notes {
     pub found: Option<ValueType>,
     /// The message that tells for which purpose the value found is used.
     pub lead: Message,
-    /// The variable whose value was found, if any; and true if the value is a newly made object.
+    /// The variable whose value is the value found, if any; and true if the value is a newly made object.
     pub variable: usize,
     pub is_new: bool,
     pub wanted: Option<ValueType>,
     /// Two regions of the current function, and two regions of the called function.
     pub regions: (Region, Region),
     pub their_regions: (Region, Region),
-    /// The required number and the number found, such as of arguments, for a message that mentions both.
+    /// For a message that mentions both, how many of something (such as arguments) are required, and how many were found.
     pub counts: (usize, usize),
 }
 
@@ -54,19 +55,20 @@ pub struct Notes {
 #[derive(Drop)]
 pub struct Words {
     pub bytes: Vec<u8>,
-    /// The text written in place of each region, if it is not empty.
+    /// The text written in place of the name of each region, if this text is not empty.
     pub stand_in: &'static [u8],
     /// The number of bytes that the current placeholder may still take; unlimited outside placeholders.
     pub room: usize,
-    /// True if a part of the text for the current placeholder was left out.
+    /// True if the text for the current placeholder was longer than allowed and its end was left out.
     pub is_cut: bool,
     /// The last source position that the lines mention, if any.
     pub place: Option<Span>,
-    /// True if memory never ran out, so that no byte is missing.
+    /// True if memory never ran out while the lines were written, so that they lack no byte.
     pub is_whole: bool,
 }
 
-/// Returns a type in the form that the typing rules use; a type that the checker could not find is treated as no value.
+/// Returns a type in the form that the typing rules use; a type that the checker could not find is treated like that of
+/// an expression without a value.
 pub fn given(value: &Option<ValueType>) -> Given<'_> {
     match value {
         Some(ValueType::Value { of_type }) => Given::Value(of_type),
@@ -93,7 +95,7 @@ fn text_on_place(origin: Origin) -> &'static [u8] {
 impl Words {
     // ---- texts of messages
 
-    /// Writes the text of a message. Each `%` in the text forms a placeholder with the letter after it.
+    /// Writes the text of a message. Each `%` in the text and the letter after it are a placeholder, which is replaced by a recorded value.
     pub fn say(&mut self, notes: &Notes, message: Message) {
         let wanted = message as usize;
         let mut line = 0usize;
@@ -126,7 +128,7 @@ impl Words {
         self.room = if is_long { LEAST_FILLED } else { MOST_FILLED };
     }
 
-    /// Ends a placeholder; three dots replace the part that was left out.
+    /// Ends a placeholder; three dots replace the end of its text if this was left out.
     fn end_gap(&mut self) {
         self.room = usize::MAX;
         if replace(&mut self.is_cut, false) {
@@ -227,7 +229,7 @@ impl Words {
 
     // ---- regions
 
-    /// Writes a region by its name; a region without a name is written by its source position, if requested.
+    /// Writes a region by its name; a region without a name is written by its source position, if the caller requests this.
     fn put_region(
         &mut self,
         lexicon: &Lexicon,
@@ -247,7 +249,7 @@ impl Words {
         }
     }
 
-    /// Writes a region, described by the construct from which it comes, its name and its source position.
+    /// Writes a region, described by the construct from which it comes, by its name and by its source position.
     fn put_home(&mut self, lexicon: &Lexicon, home: Home, is_placed: bool) {
         if let Some(name) = home.name {
             self.put_byte(b'`');
@@ -258,7 +260,7 @@ impl Words {
         }
     }
 
-    /// Writes a region of the function whose regions are `homes`.
+    /// Writes a region of the function whose regions come from the constructs in `homes`.
     fn put_of(&mut self, notes: &Notes, homes: &Homes, region: Region) {
         self.put_region(&notes.lexicon, region, homes.find(region), true);
     }
@@ -282,7 +284,7 @@ impl Words {
 
     // ---- types
 
-    /// Writes the type of the value found, and the name of the variable that has it.
+    /// Writes the type of the value found, and the name of the variable whose value it is.
     fn put_found(&mut self, notes: &Notes) {
         self.put_value(notes, &notes.found);
         if notes.variable != NO_NAME {
@@ -292,7 +294,7 @@ impl Words {
         }
     }
 
-    /// Writes the type found, with the pointer kind (`*`, `@` or `?`) of the required type.
+    /// Writes the type of the value found, with the pointer kind (`*`, `@` or `?`) of the required type.
     fn put_declared(&mut self, notes: &Notes) {
         match (&notes.found, &notes.wanted) {
             (
@@ -315,8 +317,8 @@ impl Words {
         }
     }
 
-    /// Writes the struct type to be made, in the notation after `new`: the required type for the value itself, or the type found for
-    /// a field.
+    /// Writes the struct type to be made, in the notation after `new`: the required type if the value is a newly made object, or
+    /// else the type found.
     fn put_made(&mut self, notes: &Notes) {
         let made = if notes.is_new {
             &notes.wanted
@@ -339,7 +341,7 @@ impl Words {
         }
     }
 
-    /// Writes a type with the same given text for each region.
+    /// Writes a type, with one given text in place of the name of each region.
     fn put_in_one(&mut self, notes: &Notes, value: &Option<ValueType>, region: &'static [u8]) {
         self.stand_in = region;
         self.put_value(notes, value);

@@ -15,7 +15,7 @@ fn explain_number(teller: &mut Teller, name: Ident, found: usize) {
     }
 }
 
-/// Explains why the written type is not allowed: no value can have it.
+/// Explains why a type as written in the source is not allowed: no value can have it.
 fn explain_shape(teller: &mut Teller, written: &WrittenType) {
     match &written.base {
         BaseType::Int | BaseType::Char | BaseType::Handle { .. } => {}
@@ -58,7 +58,7 @@ fn explain_base(teller: &mut Teller, base: &BaseType) {
     }
 }
 
-/// Explains a fault in a written type.
+/// Explains a fault in a type as written in the source.
 pub fn explain_written(teller: &mut Teller, written: &WrittenType) {
     explain_base(teller, &written.base);
     for mark in &written.marks {

@@ -1,4 +1,4 @@
--- Lemmas: the result for an expression follows from the results for its subexpressions, of which the code holds copies.
+-- Lemmas: the result of checking an expression follows from the results of checking its subexpressions.
 use Rattle.std.proofs.Common.{◌≡◌, ◌≢◌, ℕ, Bool, List, [], ◌∷◌, Option, Ok, Err, refl, sym, ap, ◌∙◌}
 use Rattle.cyc_words.specs.declared.fault.Code.TheVariants as codes
 use Rattle.cyc_syntax.specs.declared.tree.Postfix.{Postfix}
@@ -22,7 +22,7 @@ use Rattle.cyc_expressions.proofs.Chains.{further, next_further}
 -- ---- postfixes, and the use of the cell that they lead to
 
 module _ {A : Type 0} (next : Place → Reached → Rule A) where
-  -- the result for the postfixes after a base expression
+  -- the result for the postfixes (such as `[i]` and `->f`) after a base expression
   abbrev pub following_base : Scope → Expression → List Postfix → Checked A
   following_base g e ps = run (Part (rule_postfixed g (place_of e) (rule_looked g e (rule g e)) (postfixes_of ps)) (next (place_of e)))
 

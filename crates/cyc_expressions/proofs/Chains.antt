@@ -1,4 +1,4 @@
--- Lemmas about the code that checks the values of a list, the operations of a chain, and postfixes.
+-- Lemmas about the code that checks the values of a list, the operations of a chain (as in `a + b - c`), and postfixes.
 use Rattle.std.proofs.Common.{◌≡◌, ℕ, List, [], ◌∷◌, ◌++◌, Option, Some, None, Ok, Err, refl, sym, ap, ◌∙◌}
 use Rattle.std.proofs.lemmas.List.{append_assoc}
 use Rattle.std.proofs.lemmas.Option.{same_Some}
@@ -66,7 +66,7 @@ values_go_on g xs ys zs us z a whole is h more so_far =
 abbrev pub then_all : List Operation → typed.Operations → typed.Operations
 then_all xs os = onto put_operation (λ f rest. f rest) xs os
 
--- the result of adding the operations checked so far in front of the remaining operations
+-- the result when the already checked operations of a chain (as in `a + b - c`) are added in front of the remaining ones
 abbrev pub after_operations : List Operation → Checked (typed.Operations × Ty) → Checked (typed.Operations × Ty)
 after_operations xs checked = and_then checked (λ bs. Ok (then_all xs bs.0, bs.1))
 
@@ -90,12 +90,12 @@ then_all_view (operation.Test o e ∷ os) = ap (typed.ThenTest o (view.view_expr
 then_all_view (operation.Pointer o e ∷ os) = ap (typed.ThenPointer o (view.view_expression e)) (then_all_view os)
 then_all_view (operation.PointerPeek n o e ∷ os) = ap (typed.ThenPointerPeek n o (view.view_expression e)) (then_all_view os)
 
--- at the end of a chain, the result is that of the rule for a chain without further operations
+-- at the end of a chain such as `a + b - c`, the result is that of the typing rule for a chain without further operations
 pub chain_ends : (g : Scope) (p : Place) (k : Option ℕ) (left : ValueType) (xs : List Operation) (zs : List OperationCode) (whole : Checked (typed.Operations × Ty)) → zs ≡ []
     → after_operations xs (run (rule_chain g p k left (operations_of zs))) ≡ whole → whole ≡ after_operations xs (run (rule_chain g p k left (operations_of [])))
 chain_ends g p k left xs zs whole is so_far = sym so_far ∙ ap (λ vs. after_operations xs (run (rule_chain g p k left (operations_of vs)))) is
 
--- at the end of a chain, the type of the complete chain is the type of the operations checked so far
+-- at the end of a chain such as `a + b - c`, the type of the chain is the type of the operations checked so far
 pub chain_whole : (xs : List Operation) (known : Option Fault) (t u : Ty) → unless known t ≡ Ok u → after_operations xs (unless known (typed.NoOperations, t)) ≡ Ok (view.operations_of xs, u)
 chain_whole xs None t u h = ap (λ os. Ok (os, t)) (then_all_view xs) ∙ ap (λ v. Ok (view.operations_of xs, v)) (from_ok t u h)
 chain_whole xs (Some f) t u h = absurd (cc)
@@ -108,7 +108,7 @@ one_of meets x (Err f) h = absurd h
 
 -- ---- postfixes
 
--- checking several postfixes equals checking the first postfix and then the remaining ones
+-- checking several postfixes (such as `[i]` and `->f`) equals checking the first postfix and then the remaining ones
 pub further : (g : Scope) (p : Place) (a : typed.Expression) (z : Postfix) (us : List Postfix) → run (rule_postfixed g p (gives a) (postfixes_of (z ∷ us))) ≡ and_then (one_postfix g p a z) (λ w. run (rule_further g p w (postfixes_of us)))
 further g p a (postfix.Index i) us = and_then_twice (run (rule g (view_expression i))) _ _
 further g p a (postfix.Field f) us = refl

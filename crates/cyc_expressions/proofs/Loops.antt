@@ -4,7 +4,7 @@ use Rattle.std.proofs.Common.{◌≡◌, List, [], ◌∷◌, ◌++◌, Ok, Err,
 use Rattle.cyc_types.specs.Rules.{Checked, and_then}
 
 module _ {X Y B : Type 0} (view : X → Y) (add : Y → B → B) where
-  -- adds the views of some elements in front of a list
+  -- adds elements in front of a list, each in the form that the specification gives it
   abbrev pub onto : List X → B → B
   onto [] b = b
   onto (x ∷ xs) b = add (view x) (onto xs b)

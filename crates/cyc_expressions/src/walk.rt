@@ -1,6 +1,6 @@
-//! Checks expressions by a recursive traversal. The traversal checks the parts of an expression in order of evaluation, and then the
-//! requirements of the expression's own form (`cyc_calls`, `cyc_typing`). Each operand is checked once: as a used value, as a peek (a
-//! read that moves no unique pointer), or as an lvalue.
+//! Checks expressions by a recursive traversal. The traversal checks the subexpressions of an expression in order of evaluation, and
+//! then the requirements of the expression's own form (`cyc_calls`, `cyc_typing`). Each operand is checked once: as a used value, as
+//! a peek (a read that moves no unique pointer), or as an lvalue.
 ghost use Rattle.std.specs.Prelude.{◌≡◌, ◌≢◌, [], ◌∷◌, map, option_map, Ok, OnOk, IfErr};
 ghost use Rattle.cyc_words.specs.declared.fault.Code.TheVariants as codes;
 ghost use Rattle.cyc_syntax.specs.inside.TreeView.{place_of_span, view_name, view_initial, view_expression, expressions_of, postfixes_of, operations_of};
@@ -45,7 +45,8 @@ fn name_in(expression: &Expr) -> Option<Ident>
     }
 }
 
-/// Returns true if the first operation of a chain only peeks at its left operand: it reads a unique pointer without moving it.
+/// Returns true if the first operation of a chain only peeks at its left operand, as `==` does: it reads a unique pointer
+/// without moving it.
 fn is_looking_first(operations: &[Operation]) -> bool
     ensures { result ≡ is_looking_first (operations_of operations.now) }
 {
@@ -55,7 +56,7 @@ fn is_looking_first(operations: &[Operation]) -> bool
     }
 }
 
-/// Checks that an operand has at least one postfix; `span` is the operand's source position.
+/// Checks that an operand has at least one postfix (such as `[i]` or `->f`); `span` is the operand's source position.
 fn has_postfixes(postfixes: &[Postfix], span: Span) -> Result<(), Stop>
     ensures ok { OnOk result (postfixes.now ≢ []) }
     ensures stops { IfErr result (λ e. e ≡ stops.Refused (fault_at codes.NotAPlace (place_of_span span)) × (postfixes.now ≡ [])) }
@@ -66,15 +67,15 @@ fn has_postfixes(postfixes: &[Postfix], span: Span) -> Result<(), Stop>
     Ok(())
 }
 
-/// The operations of a chain, and the type of the complete chain.
+/// The operations of a chain such as `a + b - c`, and the type of the complete chain.
 #[derive(Drop)]
 struct Chain {
     operations: Vec<typed::Operation>,
     of_type: Ty,
 }
 
-/// Returns the left operand of an operation: the chain's first operand, or the result of the previous operations. The result of an
-/// operation is not a peek (a read of a local that moves no unique pointer).
+/// Returns the left operand of an operation in a chain: in `a + b - c`, the first operand or the result of the previous
+/// operations. The result of an operation is not a peek (a read of a local that moves no unique pointer).
 fn left_of<'a>(first: Left<'a>, of_type: &'a Option<Ty>) -> Left<'a>
     ensures span { result.span ≡ first.entry.span }
     ensures peeked { result.peeked ≡ peeked_after first.entry.peeked of_type.now }
@@ -90,7 +91,8 @@ fn left_of<'a>(first: Left<'a>, of_type: &'a Option<Ty>) -> Left<'a>
     }
 }
 
-/// Returns the type of a chain: the type of its last operation's result, or of its only operand. The chain begins at position `span`.
+/// Returns the type of a chain such as `a + b - c`: the type of its last operation's result, or of its only operand. The chain begins
+/// at position `span`.
 fn whole_type(first: Given<'_>, of_type: Option<Ty>, span: Span) -> Result<Ty, Stop>
     ensures { Gives view_ty result (run (Own (value_wanted (left_of (view_given first.entry) of_type) (place_of_span span) ∷ [])
         (tests.value_of (left_of (view_given first.entry) of_type)))) }
@@ -351,7 +353,7 @@ pub fn check_place(scope: &mut Scope<'_>, expression: &Expr, span: Span) -> Resu
     }
 }
 
-/// Checks the parts of an expression that is used as an lvalue but is not one, and then rejects the expression.
+/// Checks the subexpressions of an expression that is used as an lvalue but is not one, and then rejects the expression.
 #[cycle(expression)]
 fn check_no_place(scope: &mut Scope<'_>, expression: &Expr, span: Span) -> Result<Box<Found>, Stop>
     ensures gives { Gives view_found result (run (rule_no_place scope.old (place_of_span span) (view_expression expression.now))) }
@@ -435,8 +437,8 @@ fn check_cell(
     as_place(scope.alloc(), cell)
 }
 
-/// Checks one operation of a chain after a left operand, and adds the operation to the previous ones. Returns the type of the operation's
-/// result, which is the type of the next operation's left operand.
+/// Checks one operation of a chain (such as `a + b - c`) after its left operand, and adds the operation to the previous ones. Returns the
+/// type of the operation's result, which is the type of the next operation's left operand.
 #[cycle(expression)]
 fn check_operation(
     scope: &mut Scope<'_>,
@@ -454,7 +456,7 @@ fn check_operation(
     join(scope, so_far, left, operation.operator, right, operand)
 }
 
-/// Returns the operations of a chain after its first operand, and the type of the complete chain.
+/// Returns the operations of a chain (such as `a + b - c`) after its first operand, and the type of the complete chain.
 #[cycle(expression)]
 fn check_operations(
     scope: &mut Scope<'_>,
@@ -478,7 +480,7 @@ fn check_operations(
     })
 }
 
-/// Checks a chain of operations; its first operand begins at position `span`.
+/// Checks a chain of operations such as `a + b - c`; its first operand begins at position `span`.
 #[cycle(expression)]
 fn check_chain(
     scope: &mut Scope<'_>,

@@ -1,4 +1,5 @@
--- If a node of the typed tree contains a list, the flow state after the node is computed from the list's elements.
+-- If a node of the typed tree contains a list of elements, the flow check computes the flow state after the node
+-- from these elements, one after the other.
 use Rattle.std.proofs.Common.{◌≡◌, ℕ, List, [], ◌++◌, Option, None, Some, Result, Ok, Err, sym, ap, subst, ◌∙◌}
 use Rattle.std.specs.declared.vec.Vec.{Vec}
 use Rattle.std.specs.declared.boxed.Box.{Box}
@@ -74,8 +75,8 @@ module _ (statement : Stmt) (region : ℕ) (v : Vec ItemCode Heap) (is : stateme
       let P : Statement → Type 0 = λ a. GivesKnown r (run (rule_statement c a k)) (touched_statement a ns) breaks in
       subst P (sym e) h
 
--- If a statement is an expression, the flow state after the statement is that after the expression,
--- and the state at the breaks is unchanged.
+-- If a statement is an expression, the flow state after the statement is that after the expression.
+-- The flow state at the `break` statements so far is unchanged.
 gives_known : (r : Result Tracked Stop) (checked : Checked State) (ns : List ℕ) (breaks : State) → Gives r checked ns → GivesKnown r (and_then checked (λ f. Ok (known f breaks))) ns breaks
 gives_known (Ok t) checked ns breaks (h, k) = (ap (λ (o : Checked State). and_then o (λ f. Ok (known f breaks))) h, k)
 gives_known (Err stops.Memory) checked ns breaks h = tt
@@ -97,7 +98,8 @@ module _ (statement : Stmt) (span : Span) (condition : Expr) (b : Box Stmt Heap)
       let P : Statement → Type 0 = λ s. GivesKnown r (run (rule_statement c s k)) (touched_statement s ns) breaks in
       subst P (sym e) h
 
--- After the body of a `try`, the flow check's result for the catch clauses is its result for the whole statement.
+-- If the body of a `try` was checked without a fault, the flow check's result for the catch clauses is its result
+-- for the whole `try` statement.
 module _
     (statement : Stmt) {span : Span} (b : Box Stmt Heap) (v : Vec Clause Heap) (d : Option Body) (is : statement ≡ stmt.Try span b v d) (body : Stmt) (at : body ≡ b.value) (items : List Clause) (same : items ≡ v.items)
     (l : Option Loop) (locks later : List ℕ) (unlocked : later ≡ locks) (f breaks before end inside start now : State) (copied : before ≡ f) (goes_on : now ≡ end)

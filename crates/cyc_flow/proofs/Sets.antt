@@ -57,7 +57,8 @@ taken_and_rest zero xs = refl
 taken_and_rest (suc n) [] = refl
 taken_and_rest (suc n) (x ∷ xs) = ap (λ ys. x ∷ ys) (taken_and_rest n xs)
 
--- `Changed` says that the first `i` elements of a list are changed already, and the remaining ones are still unchanged.
+-- `Changed` says that the first `i` elements of a list already have the words of a second list applied to them, and
+-- that the remaining elements are unchanged.
 abbrev pub Changed : {X : Type 0} → (X → ℕ → X) → List X → List ℕ → ℕ → (whole : List X) → Type 0
 Changed f xs ws i whole = take i xs ++ with_words f (drop i xs) (drop i ws) ≡ whole
 

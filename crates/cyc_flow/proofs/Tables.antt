@@ -31,7 +31,7 @@ same_each (suc n) f g each =
     ap (λ a. a ∷ each_below n (λ i. f (suc i))) (each 0 (omega arith))
     ∙ ap (λ as'. g 0 ∷ as') (same_each n (λ i. f (suc i)) (λ i. g (suc i)) (λ i below. each (suc i) (omega (arith, below))))
 
--- Changing a function at one number changes the list of its values at the same index.
+-- If the value of a function at one number is changed, then in the list of the function's values only the element at this index changes.
 pub set_each : (n : ℕ) (f g : ℕ → Fullness) (i : ℕ) (a : Fullness) → ((j : ℕ) → j < n → j ≢ i → g j ≡ f j) → (i < n → g i ≡ a) → each_below n g ≡ set (each_below n f) i a
 set_each zero f g i a other same = refl
 set_each (suc n) f g zero a other same =
@@ -155,7 +155,7 @@ covered_bit zero (suc (suc z)) small less h = absurd (omega (arith, less))
 covered_bit (suc zero) z small less h = refl
 covered_bit (suc (suc x)) z small less h = absurd (omega (arith, small))
 
--- A bit is missing in the first word if it is set in the second word but not in the first.
+-- A bit counts as missing in the first of two words if it is set in the second word but not in the first.
 lacking : (a b i : ℕ) → bit_at (bit_xor (bit_and a b) b) i ≡ (min (bit_at a i) (bit_at b i) + bit_at b i) % 2
 lacking a b i = bit_at_xor (bit_and a b) b i ∙ ap (λ (x : ℕ). (x + bit_at b i) % 2) (bit_at_and a b i)
 

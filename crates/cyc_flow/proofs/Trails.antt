@@ -1,4 +1,5 @@
--- Undoing the recorded changes of a flow state, and computing its meet with the state before these changes.
+-- This file is about undoing the recorded changes of a flow state, and about the meet of the flow state
+-- with the state before these changes.
 use Rattle.std.proofs.Common.{◌≡◌, ℕ, zero, suc, true, false, List, [], ◌∷◌, ◌++◌, get_or, set, refl, sym, ap, ◌∙◌}
 use Rattle.std.proofs.lemmas.List.{set-get_or}
 use Rattle.cyc_types.specs.flow.States.{Fullness, Vacant, Locked, Full, State, Unreached, Reached, lower, lower_each, meet, fullness, with_fullness, is_vacant}
@@ -31,8 +32,8 @@ pub lowered_append : (cs ds : List Change) (f : State) → lowered (cs ++ ds) f 
 lowered_append [] ds f = refl
 lowered_append (c ∷ cs) ds f = lowered_append cs ds (with_fullness (lower (fullness f c.number) (view_fullness c.before)) f c.number)
 
--- If recorded states lower locals as the list of changes requires, then they still do when one more changed local's
--- present state is recorded.
+-- Suppose that a list of recorded states lowers a flow state as a list of changes requires. If one more changed
+-- local is recorded with its present state, the longer lists still agree.
 pub noted_now : (g : State) (vs : List Change) (v c : Change) (cs : List Change) (f : State) → v.number ≡ c.number → view_fullness v.before ≡ fullness g c.number
     → lowered_to g cs (lowered (vs ++ v ∷ []) f) ≡ lowered_to g (c ∷ cs) (lowered vs f)
 noted_now g vs v c cs f n e =
@@ -71,7 +72,7 @@ set_lower [] n a b = refl
 set_lower (d ∷ as') zero a b = refl
 set_lower (d ∷ as') (suc n) a b = ap (λ bs. d ∷ bs) (set_lower as' n a b)
 
--- Setting one local to a lower state commutes with lowering another local.
+-- Setting one local to a lower state (lent or empty) commutes with lowering the state of another local.
 swapped : (as' : List Fullness) (now : ℕ → Fullness) (n m : ℕ) (a : Fullness) → lower a (now n) ≡ a
     → set (set as' n a) m (lower (get_or (set as' n a) m Vacant) (now m)) ≡ set (set as' m (lower (get_or as' m Vacant) (now m))) n a
 swapped [] now n m a h = refl
@@ -125,7 +126,7 @@ lowered_reached : (bs : List Fullness) (cs : List Change) (as' : List Fullness) 
 lowered_reached bs [] as' = refl
 lowered_reached bs (c ∷ cs) as' = lowered_reached bs cs (set as' c.number (lower (get_or as' c.number Vacant) (known_now bs c.number)))
 
--- The meet of the present flow state with the state before the changes lowers only the changed locals.
+-- The meet of the present flow state with the state before the changes lowers (makes emptier) only the changed locals.
 pub meet_undone : (cs : List Change) (g : State) → meet (undone cs g) g ≡ lowered_to g cs (undone cs g)
 meet_undone cs Unreached =
     ap (λ (f : State). meet f Unreached) (undone_unreached cs) ∙ sym (ap (lowered_to Unreached cs) (undone_unreached cs) ∙ lowered_unreached Unreached cs)

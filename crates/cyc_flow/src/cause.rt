@@ -14,8 +14,8 @@ pub enum Change {
     Assigned,
     /// The program point lends the local until the end of the block.
     Locked,
-    /// The program point peeks at the local (reads it without moving its value), and later operands
-    /// are evaluated before the read value is used.
+    /// The program point peeks at the local (reads it without moving its value), and later operands are evaluated before the read value is
+    /// used.
     Peeked,
 }
 

@@ -18,12 +18,13 @@ pub(crate) struct Walk {
     pub(crate) number: usize,
     /// The peek of the local (a read without a move) whose value is not yet used, if any.
     pub(crate) waiting: Option<Cause>,
-    /// The effect that the body of the innermost enclosing `try` has on the local.
+    /// The effect that the body of the innermost enclosing `try` has on the local: a move of its value, an assignment or another change.
     pub(crate) touched: Option<Cause>,
-    /// True if a declaration or statement has locked the local since the start of the enclosing loop's body.
+    /// True if a declaration or statement has locked the local (lent it until the end of a block) since the
+    /// start of the enclosing loop's body.
     pub(crate) is_locked: bool,
     pub(crate) around: Option<Around>,
-    /// The meet of the local's states at the breaks that leave the enclosing loop.
+    /// The meet (the emptiest) of the local's states at the `break` statements that leave the enclosing loop.
     pub(crate) breaks: Known,
 }
 
@@ -62,7 +63,7 @@ impl Walk {
 
     // ---- effects on the local
 
-    /// Visits a use of the local's name at this source position, which may be that of the fault.
+    /// Visits a use of the local whose name is at this source position. The search ends there if this is the position of the fault.
     fn name(&self, span: Span, number: usize, known: Known) -> Result<(), Found> {
         if number == self.number && is_at(span, self.fault) {
             return Err(Found(known.cause().or(self.waiting)));
@@ -117,7 +118,8 @@ impl Walk {
         }
     }
 
-    /// Visits a declaration or statement that declares one local and locks another one, whose name is at this source position.
+    /// Visits a declaration or statement that declares one local and locks another one (lends it until the end of the block).
+    /// The name of the locked local is at this source position.
     pub(crate) fn lock(
         &mut self,
         number: usize,
@@ -163,8 +165,8 @@ impl Walk {
         before
     }
 
-    /// Visits the end of a loop's body, where control returns to the loop's head. The position of
-    /// the loop's keyword may be that of the fault.
+    /// Visits the end of a loop's body, where control returns to the loop's head. The position of the loop's keyword may be that of the
+    /// fault.
     pub(crate) fn go_back(&self, span: Span, head: Known, end: Known) -> Result<(), Found> {
         if is_at(span, self.fault) && end.is_emptier(head) {
             return Err(Found(end.cause()));

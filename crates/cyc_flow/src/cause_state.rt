@@ -51,7 +51,8 @@ impl Known {
         }
     }
 
-    /// Returns the local's state after a block: full if the block had locked the local, otherwise unchanged.
+    /// Returns the local's state after a block: full if the block had locked the local (lent it until the
+    /// block's end), otherwise unchanged.
     pub(crate) fn unlocked(self, is_locked: bool) -> Known {
         if is_locked {
             self.set(Known::Full)

@@ -41,7 +41,7 @@ pub fn flow(alloc: Global, tree: TypedTree) -> Result<Flowed, Fault>
     Ok(Flowed { tree })
 }
 
-/// A flow fault, and the source position that brought its variable into the faulty state, if known.
+/// A flow fault and, if known, the source position at which its variable became empty or lent.
 #[derive(Clone, Copy)]
 pub struct Diagnosis {
     pub fault: Fault,

@@ -1,5 +1,5 @@
-//! The flow state during the traversal of an expression. The search for a fault's cause is a second
-//! traversal for one local, used only for diagnostics.
+//! The flow state of all locals during the traversal of an expression. The search for a fault's cause, only for diagnostics, is a second
+//! traversal that follows one local.
 ghost use Rattle.std.specs.Prelude.{◌≡◌, ◌++◌, [], IfOk};
 ghost use Rattle.cyc_types.specs.flow.States.{meet, with_fullness};
 ghost use Rattle.cyc_types.specs.flow.Touched.{and_local};
@@ -10,7 +10,7 @@ use crate::state::{Change, Fullness, State};
 use crate::touched::Touched;
 use std::alloc::{AllocError, Global};
 
-/// The flow state at a program point in an expression, and the locals touched before this point.
+/// The flow state at a program point in an expression, and the locals touched (consumed, assigned or locked) before this point.
 #[derive(Drop)]
 pub(crate) struct Evaluation {
     pub(crate) state: State,
@@ -19,7 +19,7 @@ pub(crate) struct Evaluation {
     pub(crate) trail: Vec<Change>,
 }
 
-/// Returns the present state of each changed local, as a list of changes.
+/// Returns the list of changed locals, each with its present state (empty, lent or full).
 #[tactic(auto, using(std::proofs::lemmas::List::drop_more, crate::proofs::Trails::noted_now))]
 fn changed(alloc: Global, state: &State, trail: &[Change]) -> Result<Vec<Change>, AllocError>
     ensures { IfOk result (λ v. Notes v.items (view_state state.now) trail.now) }
@@ -94,7 +94,7 @@ impl Evaluation {
         Ok(())
     }
 
-    /// Restores the flow state at the start of the expression, and undoes the changes recorded since.
+    /// Sets the flow state back to that at the start of the expression, by undoing the changes recorded since.
     fn undo(&mut self)
         ensures state { view_state self.new.state ≡ begun self.old }
         ensures touched { self.new.touched.numbers.list ≡ self.old.touched.numbers.list }
@@ -105,7 +105,7 @@ impl Evaluation {
         }
     }
 
-    /// Lowers each changed local to its recorded state.
+    /// Sets each changed local to the emptier of two states: its present state and its recorded state.
     #[tactic(auto, using(std::proofs::lemmas::List::drop_more))]
     fn lower(&mut self, changes: &[Change]) -> Result<(), AllocError>
         ensures state { IfOk result (λ _. view_state self.new.state ≡ lowered changes.now (view_state self.old.state)) }
@@ -120,8 +120,8 @@ impl Evaluation {
     }
 
     /// Replaces the state by its meet with the state at the start. If an operand has only consumed locals, the result is the present state;
-    /// skipping the meet if an operand has only consumed locals keeps nested operators cheap, since each of them would
-    /// visit the same changes again.
+    /// skipping the meet of flow states if an operand has only consumed locals keeps nested operators cheap, since
+    /// each of them would visit the same changes again.
     #[tactic(auto, using(crate::proofs::Trails::meet_undone, crate::proofs::Trails::meet_emptied))]
     pub(crate) fn meet_start(&mut self, alloc: Global) -> Result<(), AllocError>
         ensures state { IfOk result (λ _. view_state self.new.state ≡ meet (begun self.old) (view_state self.old.state)) }
@@ -136,7 +136,7 @@ impl Evaluation {
         self.lower(&changed)
     }
 
-    /// Ends an operand of `&&` or `||`, and adds its changes to those recorded before the operand.
+    /// Ends an operand of `&&` or `||`, and adds its changes of locals to the list of changes that were recorded before the operand.
     #[tactic(auto, using(crate::proofs::Trails::undone_append))]
     pub(crate) fn resume(&mut self, outer: Vec<Change>) -> Result<(), AllocError>
         ensures state { IfOk result (λ _. view_state self.new.state ≡ view_state self.old.state) }

@@ -90,7 +90,7 @@ impl Tracked {
         Ok(())
     }
 
-    /// Returns the flow state after the body of a `try`, with the locals touched before the body and in it.
+    /// Returns the flow state after the body of a `try`, with the locals touched (consumed, assigned or locked) before the body and in it.
     pub(crate) fn after_body(self, touched: Touched) -> Tracked
         ensures state { view_state result.state ≡ view_state self.state }
         ensures touched { result.touched.numbers.list ≡ touched.numbers.list ++ self.touched.numbers.list }

@@ -24,21 +24,21 @@ impl Model for Numbers {
 }
 
 impl Numbers {
-    /// Returns the empty list of touched locals.
+    /// Returns the empty list of touched locals, that is, of locals that were consumed, assigned or locked.
     pub(crate) fn none() -> Numbers
         ensures { result.list ≡ [] }
     {
         Numbers {}
     }
 
-    /// Returns the list of touched locals, extended by the local of one more touch.
+    /// Returns the list of touched locals (consumed, assigned or locked), extended by one more such local.
     pub(crate) fn with(_before: &Numbers, _touch: &Touch) -> Numbers
         ensures { result.list ≡ and_local _touch.now.number _before.now.list }
     {
         Numbers {}
     }
 
-    /// Returns the concatenation of two lists of touched locals.
+    /// Returns the concatenation of two lists of touched locals, that is, of locals that were consumed, assigned or locked.
     pub(crate) fn joined(_before: &Numbers, _more: &Numbers) -> Numbers
         ensures { result.list ≡ _before.now.list ++ _more.now.list }
     {

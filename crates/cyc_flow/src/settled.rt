@@ -1,5 +1,5 @@
-//! The requirements of a construct are checked in order. Of several violated ones, the fault with the lowest code is reported, and the
-//! first if several have that code.
+//! The requirements of a flow rule on one construct are checked in order. If several are violated, the fault with the lowest code is
+//! reported, and the first if several faults have that code.
 ghost use Rattle.std.specs.Prelude.{◌≡◌, None};
 ghost use Rattle.cyc_syntax.specs.inside.TreeView.{place_of_span};
 ghost use Rattle.cyc_types.specs.Rules.{demand, noted, settled};
@@ -98,7 +98,7 @@ impl Settled {
         self.demand(Code::LoopEmptiesVariable, span, number, kept);
     }
 
-    /// Returns the fault if one of the requirements was violated.
+    /// Returns the fault found by the check of a construct's requirements, if one of them was violated.
     pub(crate) fn end(&self) -> Result<(), Stop>
         ensures { Ends result self.now.known }
     {

@@ -9,7 +9,7 @@ use crate::table::Table;
 use crate::touched::Touched;
 use std::alloc::{AllocError, Global};
 
-/// The state of a local. The order of the variants is from empty to full.
+/// The state of a local: empty, lent or full. The order of the variants is from empty to full.
 #[derive(Clone, Copy, PartialEq, Eq)]
 pub(crate) enum Fullness {
     /// The local may be empty, so that it must not be used.

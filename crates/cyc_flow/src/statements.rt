@@ -136,7 +136,7 @@ fn find_side(
     }
 }
 
-/// Requires that an operand of a swap that is a variable may be used, after both operands were evaluated.
+/// Requires that a variable that is an operand of a swap holds a value that is not lent, after both operands of the swap were evaluated.
 fn use_side(asked: &mut Settled, waiting: &[usize], side: &Side, state: &State)
     ensures { asked.new.known ≡ settled asked.old.known (side_demanded waiting.now (view_side side.now) (view_state state.now)) }
 {
@@ -176,9 +176,10 @@ pub(crate) struct Loop {
 #[derive(Drop)]
 pub(crate) struct Walk {
     alloc: Global,
-    /// The locals that declarations and statements have locked since the start of the enclosing loop's body, in order.
+    /// The locals that declarations and statements have locked (lent until the end of a block) since the start of the
+    /// enclosing loop's body, in order.
     locks: Vec<usize>,
-    /// The meet of the states at the breaks so far that leave the enclosing loop.
+    /// The meet of the flow states at the `break` statements so far that leave the enclosing loop.
     breaks: State,
 }
 
@@ -222,8 +223,8 @@ impl Walk {
         check_head(&at_exit, &around.head, around.span)
     }
 
-    /// Checks a declaration or statement that declares one local and locks another one until the end of the
-    /// block; the locked local's name is at the given source position.
+    /// Checks a declaration or statement that declares one local and locks another one, that is, lends it
+    /// until the end of the block. The locked local's name is at the given source position.
     fn lock(
         &mut self,
         number: usize,
@@ -406,7 +407,8 @@ impl Walk {
         })
     }
 
-    /// Checks a block. At the end of the block, the locals that its declarations and statements have locked are full again.
+    /// Checks a block. At the end of the block, the locals that its declarations and statements have locked (lent until the
+    /// block's end) are full again, that is, their values are no longer lent.
     #[cycle(statement)]
     fn check_block(
         &mut self,
@@ -429,7 +431,7 @@ impl Walk {
         })
     }
 
-    /// Checks the declarations and statements of a block. The locals that they lock stay locked.
+    /// Checks the declarations and statements of a block. The locals that they lock (lend until the block's end) stay locked afterwards.
     #[cycle(statement)]
     #[tactic(auto, using(std::proofs::lemmas::List::drop_more, std::proofs::lemmas::List::append_assoc))]
     pub(crate) fn check_items(

@@ -1,4 +1,4 @@
-//! The flow state of each local of a function, as bits of words, so that the join of two branches processes 64 locals at once.
+//! The flow state of each local of a function, as bits of machine words, so that the join of two branches processes 64 locals at once.
 ghost use Rattle.std.specs.Prelude.{◌≡◌, ◌≢◌, ◌<◌, ◌≤◌, ◌++◌, IfOk, ℕ, List, true, length, replicate, drop, get_or, slice_set};
 ghost use Rattle.std.specs.Int.{bit_at};
 ghost use Rattle.cyc_types.specs.flow.States.{Vacant, Full, Reached, lower_each, are_as_full, with_each, emptied};

@@ -1,4 +1,4 @@
-//! The set of touched locals. Each local is visited once, and 64 locals at a time.
+//! The set of touched locals (consumed, assigned or locked). Each local is visited once, and 64 locals at a time.
 ghost use Rattle.std.specs.Prelude.{◌≡◌, ◌==◌, ◌||◌, ℕ, [], ◌++◌, IfOk, bit_or};
 ghost use Rattle.cyc_types.specs.flow.Touched.{and_local};
 ghost use Rattle.cyc_flow.specs.inside.Numbers.{has_number, with_words, Stand};
@@ -11,7 +11,8 @@ use std::mem;
 /// The locals (unique pointers and keys) that were consumed, assigned or locked in a part of a function.
 #[derive(Drop)]
 pub(crate) struct Touched {
-    /// One bit for each local, 64 in a word, which is set if the local was touched. Locals beyond the last word were not touched.
+    /// One bit for each local, 64 in a word, which is set if the local was touched (consumed, assigned or locked). Locals beyond
+    /// the last word were not touched.
     words: Vec<u64>,
     pub(crate) numbers: Numbers,
     ghost stand: { Stand words.items numbers.list },
@@ -70,7 +71,7 @@ impl Touched {
         &self.words
     }
 
-    /// Adds the index of one more touched local to the set.
+    /// Adds the index of one more touched local (consumed, assigned or locked) to the set.
     pub(crate) fn add(&mut self, number: usize) -> Result<(), AllocError>
         ensures { IfOk result (λ _. self.new.numbers.list ≡ and_local number self.old.numbers.list) }
     {
@@ -84,7 +85,8 @@ impl Touched {
         Ok(())
     }
 
-    /// Returns the union of two sets of touched locals, whose list of local indices is the first set's list followed by the second's.
+    /// Returns the union of two sets of touched locals (consumed, assigned or locked). The list of local indices of the union is the
+    /// first set's list followed by the second's.
     pub(crate) fn joined(self, more: Touched) -> Touched
         ensures { result.numbers.list ≡ self.numbers.list ++ more.numbers.list }
     {

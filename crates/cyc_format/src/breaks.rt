@@ -22,7 +22,7 @@ pub(crate) enum BreakKind {
 #[derive(Clone, Copy)]
 pub(crate) struct Break {
     pub(crate) kind: BreakKind,
-    /// The indentation level of the next line, even if a comment begins that line.
+    /// The indentation level of the code on the next line, even if a comment begins that line.
     pub(crate) level: usize,
     /// The indentation level of comments on lines of their own.
     pub(crate) comment_level: usize,
@@ -54,7 +54,8 @@ impl Break {
 impl<'t> Layout<'t> {
     // ---- constructs that the next token closes
 
-    /// Closes the open constructs that the token with this index shows to be complete.
+    /// Closes the open constructs, such as a list of regions, conditions or a catch clause, that the token with this index shows to be
+    /// complete.
     pub(crate) fn resolve(&mut self, number: usize) {
         let kind = self.kind(number);
         if self.frames.ends_with(FrameKind::Regions)

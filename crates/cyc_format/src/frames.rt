@@ -38,7 +38,7 @@ pub(crate) struct Frame {
     pub(crate) kind: FrameKind,
     /// The indentation level of the statement in which the construct was opened.
     pub(crate) outside: usize,
-    /// True if the whole construct is on the line on which it was opened.
+    /// True if the whole construct, up to its closing bracket or brace, is on the line on which it was opened.
     pub(crate) is_one_line: bool,
     /// True if the statement that the construct controls is on a line of its own.
     pub(crate) is_broken: bool,
@@ -162,7 +162,7 @@ impl Frames {
         }
     }
 
-    /// Closes the innermost open conditions, up to the first construct that is no condition or has the kind `kept`.
+    /// Closes the innermost open conditions of `if` or `while`, up to the first open construct that is no condition or has the kind `kept`.
     pub(crate) fn close_heads(&mut self, kept: Option<FrameKind>) {
         for _ in 0..self.all.len() {
             match self.last() {

@@ -29,7 +29,7 @@ pub(crate) struct Statement {
     pub(crate) is_case: bool,
     /// True if the statement consists of a single call.
     pub(crate) is_call: bool,
-    /// True if the statement has had a body of several lines and continues after this body.
+    /// True if the statement contains a body in braces with several lines, and continues after the closing brace.
     pub(crate) is_large: bool,
 }
 
@@ -43,11 +43,11 @@ pub(crate) struct Layout<'t> {
     pub(crate) at: At,
     pub(crate) role: Role,
     pub(crate) statement: Statement,
-    /// True if the last token of the statement ends an operand.
+    /// True if the last token of the statement so far is the last token of an operand, such as a name, a number or a closing parenthesis.
     pub(crate) is_operand: bool,
-    /// True if the last token closes the handle of an `rnew`.
+    /// True if the last token of the statement so far closes the region handle of an `rnew`.
     pub(crate) is_handle: bool,
-    /// True if the statement is between braces that are on one line.
+    /// True if the statement is inside a pair of braces that is written on one line.
     pub(crate) is_one_line: bool,
     /// True if an empty line must precede the next statement.
     pub(crate) is_apart: bool,

@@ -85,7 +85,8 @@ impl<'t> Layout<'t> {
         self.is_operand = false;
     }
 
-    /// Closes a condition. The statement that the condition controls continues at the condition's indentation level.
+    /// Closes the condition of an `if` or `while`. The statement that the condition controls is indented as the
+    /// statement in which the condition was opened.
     fn close_head(&mut self, kind: FrameKind) {
         if self.frames.ends_with(kind) {
             if let Some(frame) = self.frames.pop() {
@@ -120,7 +121,7 @@ impl<'t> Layout<'t> {
         }
     }
 
-    /// Returns the role of a token that is an operator or a pointer sign.
+    /// Returns the role of a token that is an operator or a pointer sign: the text around it decides between the two.
     fn role_of(&self, sign: Sign, before: &Before) -> Role {
         match sign {
             Sign::At | Sign::Question => Role::Mark,

@@ -1,7 +1,7 @@
-//! The role of a token, which determines the gap before the next token.
+//! The role of a token, such as operator, pointer sign or opening bracket, which determines the gap before the next token.
 use cyc_syntax::{Keyword, Sign, Token, TokenKind};
 
-/// The role of the last token in its statement or construct.
+/// The role (such as operator, pointer sign or opening bracket) of the last token in its statement or construct.
 #[derive(Clone, Copy, Debug, PartialEq, Eq)]
 pub(crate) enum Role {
     /// The token opened a bracket, or braces around values.
@@ -168,7 +168,7 @@ fn are_one(last: u8, first: u8) -> bool {
         )
 }
 
-/// Returns true if two tokens must be separated by a space, whatever their roles are.
+/// Returns true if two adjacent tokens must be separated by a space, whatever their roles (operator, pointer sign and so on) are.
 pub(crate) fn are_apart(text: &[u8], token: Token, next: Token) -> bool {
     let bytes = text.get(token.start..token.end).unwrap_or(&[]);
     match (bytes.last(), text.get(next.start)) {

@@ -119,7 +119,7 @@ frame_there [] k other below = absurd (omega arith)
 frame_there (f ∷ frames) zero other below = refl
 frame_there (f ∷ frames) (suc k) other below = frame_there frames k other (omega arith)
 
--- Adding one more correct frame to the list keeps the loop invariant.
+-- Adding the correct frame of the next function to a list of correct frames keeps the loop invariant that all frames so far are correct.
 pub more_frames : (program : Program) (count before most : ℕ) (frames : List Frame) (frame : Frame) (r : Routine) → AreFirstFrames program count before frames → before ≤ most → frame.saved ≤ most
     → r ≡ routine_at program count → IsFrame r frame → AreHomes program r frame.saved frame.homes → AreIdle program r frame.homes frame.idle → AreFillable program r frame.homes frame.fills → AreFirstFrames program (count + 1) most (frames ++ frame ∷ [])
 more_frames program count before most frames frame r are rises saved is framed homes idle fills = record {
@@ -222,7 +222,8 @@ module _ (program : Program) (most : ℕ) (few : most ≤ MOST_SAVED) where
           omega (arith, before, ap (λ (f : Frame). f.saved) (get_or-set_other frames n k (record (frame_at frames n) { saved = most }) no_frame other))
     ]
 
-    -- A function that opens no exception handler need not save more registers, so the loop invariant is kept.
+    -- A function that opens no exception handler keeps the invariant that each visited function with a
+    -- handler saves at least `most` registers.
     pub raised_past : (n : ℕ) → opens_any (routine_at program n).code ≡ false → AreRaised program n most frames → AreRaised program (n + 1) most frames
     raised_past n none so_far k below opens = elim (cases_eq k n) [
       | inl same ↦ absurd (let e : false ≡ true = sym none ∙ (sym (ap (λ (j : ℕ). opens_any (routine_at program j).code) same) ∙ opens) in cc)

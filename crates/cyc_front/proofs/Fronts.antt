@@ -21,7 +21,7 @@ use Rattle.cyc_front.specs.declared.front.Phases.{Phases}
 use Rattle.cyc_front.specs.Front.{names_in, IsAcceptedText, IsStoppedText, IsRefusedText, HasFault}
 use Rattle.cyc_front.specs.inside.Phases.{HasTree}
 
--- Says that a phase passed the result a: a is accepted, no other result is accepted, and there is no fault.
+-- Says that a phase of the front end passed the result a: a is accepted, no other result is accepted, and there is no fault.
 pub record Passes {A : Type 0} (Accepted : A → Type 0) (Has : Fault → Type 0) (a : A) : Type 0 where
   pub is : Accepted a
   pub only : (b : A) → Accepted b → a ≡ b
@@ -44,16 +44,16 @@ Parsed OfGrammar text tokens tree = Passes (parser.IsAccepted tokens) (OfGrammar
 abbrev pub Checked : List Token → List Declaration → Program → Type 0
 Checked tokens tree p = Passes (IsTypedProgram (names_in tokens) tree) (IsRefusedProgram (names_in tokens) tree) p
 
--- If the lexer passed the tokens of a list, it passed the tokens of any equal list.
+-- If the lexer passed the tokens of a list, it also passed the tokens of any list that equals this one.
 pub lexed : (text : List ℕ) (ts us : List TokenCode) → us ≡ ts → Lexed text (map (token_of text) ts) → Lexed text (map (token_of text) us)
 lexed text ts us same l = subst (λ x. Lexed text (map (token_of text) x)) (sym same) l
 
--- If a tree was parsed from the tokens of a list, the tree belongs to any equal list of tokens.
+-- If a syntax tree was parsed from the tokens of a list, it is also the syntax tree of any equal list of tokens.
 pub of_tokens : (text : List ℕ) (us ts : List TokenCode) (tree : Tree) → us ≡ ts → parser.IsAccepted (map (token_of text) us) (declarations_of tree)
     → tree.names ≡ names_in (map (token_of text) us) → HasTree text ts tree
 of_tokens text us ts tree same is names = subst (λ (x : List TokenCode). HasTree text x tree) same (is, names)
 
--- If the list of texts contains the names of the tokens, the result of type checking holds for the names of the tokens.
+-- If a list of texts equals the names of the tokens, the result of type checking with this list is the result with those names.
 pub checked : (tokens : List Token) (tree : List Declaration) (p : Program) (texts : List (List ℕ)) → texts ≡ names_in tokens
     → Passes (IsTypedProgram texts tree) (IsRefusedProgram texts tree) p → Checked tokens tree p
 checked tokens tree p texts same c = subst (λ ns. Passes (IsTypedProgram ns tree) (IsRefusedProgram ns tree) p) same c
@@ -67,7 +67,7 @@ typed_here OfGrammar text tokens tree l r p a =
     let one : tree ≡ a.tree = r.only a.tree (subst (λ ts. parser.IsAccepted ts a.tree) (sym same) a.has_tree) in
     subst (λ d. IsTypedProgram (names_in tokens) d p) (sym one) (subst (λ ts. IsTypedProgram (names_in ts) a.tree p) (sym same) a.typed)
 
--- The fault of a phase after parsing, for a list of declarations: a typing fault or a flow fault.
+-- The fault that a phase after parsing finds in a list of declarations: a typing fault or a flow fault.
 abbrev pub IsFaulty : List Token → List Declaration → Fault → Type 0
 IsFaulty tokens tree f =
     IsRefusedProgram (names_in tokens) tree f
@@ -96,12 +96,12 @@ pub record Stops {A : Type 0} (Accepted : A → Type 0) (Has : Fault → Type 0)
   pub none : (a : A) → Accepted a → f ≡ memory_fault
   pub no_other : (g : Fault) → Has g → (f ≡ memory_fault) ⊎ (f ≡ g)
 
--- Says that a result answers a text as the front end must; `Gives` states how a result contains the typed program.
+-- Says that this result of the front end is correct for a text; `Gives` states how a result contains the typed program.
 abbrev pub IsAnsweredBy : {X : Type 0} → (Program → X → Type 0) → List ℕ → Result X Fault → Type 0
 IsAnsweredBy Gives text result = Decides (IsAcceptedText text) Gives (IsRefusedText text) (HasFault text) result
 
--- Says that the result contains the program p. The result is a typed tree that satisfies the flow
--- rules, or the record of all phase results.
+-- Says that the result of the front end contains the program p. The result is a typed tree that satisfies the flow rules, or the record of
+-- all phase results.
 abbrev pub HasProgram : Program → Flowed → Type 0
 HasProgram p v = view_program v.tree ≡ p
 
@@ -111,12 +111,12 @@ HasPhases p v = HasProgram p v.program
 abbrev pub IsAnswered : List ℕ → Result Flowed Fault → Type 0
 IsAnswered = IsAnsweredBy HasProgram
 
--- If the front end rejects a text, the fault does not depend on the form in which results are returned.
+-- If the front end rejects a text, the same fault is returned by both of its functions, whose accepted results have different forms.
 pub refused_by_both : {X Y A : Type 0} {Accepted : A → Type 0} {Refused Faulty : Fault → Type 0} (Gives : A → X → Type 0) (Other : A → Y → Type 0) (f : Fault)
     → Decides Accepted Gives Refused Faulty (Err f) → Decides Accepted Other Refused Faulty (Err f)
 refused_by_both Gives Other f d = record { accepted = tt; refused = d.refused; accepts = d.accepts; refuses = d.refuses }
 
--- An accepted result can be replaced by any other result that contains the same program.
+-- An accepted result of the front end can be replaced by any other result that contains the same program.
 pub accepted_alike : {X Y A : Type 0} {Accepted : A → Type 0} {Refused Faulty : Fault → Type 0} (Gives : A → X → Type 0) (Other : A → Y → Type 0) (x : X) (y : Y)
     → ((a : A) → Gives a x → Other a y) → Decides Accepted Gives Refused Faulty (Ok x) → Decides Accepted Other Refused Faulty (Ok y)
 accepted_alike Gives Other x y alike d = record {
@@ -126,7 +126,7 @@ accepted_alike Gives Other x y alike d = record {
   refuses = d.refuses;
 }
 
--- If a phase decides to reject, the front end rejects with the fault of that phase.
+-- If the decision of a phase is to reject, the front end rejects with the fault of that phase.
 pub stopped_front : {X A : Type 0} (Accepted : A → Type 0) (Gives : A → X → Type 0) (Refused Has : Fault → Type 0) (f : Fault)
     → Decides Accepted Gives Refused Has (Err f) → Stops Accepted Has f
 stopped_front Accepted Gives Refused Has f d = record { none = d.accepts; no_other = d.refuses }

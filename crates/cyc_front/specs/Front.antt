@@ -1,7 +1,7 @@
 -- The accepted source texts, and the faults of rejected texts. The front end of the compiler has four phases: lexer, parser, type checker
--- and flow check. The text has tokens, the tokens have a tree, the tree has a typed program, and the typed program satisfies the flow
--- rules. Each phase defines separately which inputs it accepts and rejects; this file combines these definitions. (That the first phase to
--- reject a text determines the fault is this project's own choice.)
+-- and flow check. The text has tokens, the tokens have a syntax tree, the syntax tree has a typed program, and the typed program satisfies
+-- the flow rules. Each phase defines separately which inputs it accepts and rejects; this file combines these definitions. (That the first
+-- phase to reject a text determines the fault is this project's own choice.)
 use Rattle.std.specs.Prelude.{◌⊎◌, ℕ, List}
 use Rattle.cyc_words.specs.declared.fault.Fault.{Fault}
 use Rattle.cyc_syntax.specs.Names.{distinct_texts}
@@ -40,7 +40,7 @@ IsStoppedText OfGrammar text f =
 abbrev pub IsRefusedText : List ℕ → Fault → Type 0
 IsRefusedText = IsStoppedText parser.IsRefused
 
--- Says that the text is rejected with this fault and with no other. If the tokens of a text have no tree, the definition only says that
--- the text is rejected.
+-- Says that the text is rejected with this fault and with no other. If the tokens of a text have no syntax tree, the definition only
+-- says that the text is rejected.
 abbrev pub HasFault : List ℕ → Fault → Type 0
 HasFault = IsStoppedText parser.IsFaulty

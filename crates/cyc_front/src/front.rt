@@ -23,17 +23,17 @@ pub struct Phases {
     pub program: Flowed,
 }
 
-/// Returns all results of the front end for a text: its tokens, their tree, and the typed tree that satisfies the flow rules.
+/// Returns all results of the front end for a text: its tokens, their syntax tree, and the typed tree that satisfies the flow rules.
 ///
 /// The first phase that rejects the text determines the fault. If memory runs out, the front end returns the memory fault.
 pub fn run_phases(alloc: Global, text: &[u8]) -> Result<Phases, Fault>
     // If a text is accepted, the result is its typed program. A text is rejected only if the condition of the fault's code holds at the
     // fault's position.
     ensures decides { Decides (IsAcceptedText text.now) (λ p v. view_program v.program.tree ≡ p) (IsRefusedText text.now) (HasFault text.now) result }
-    // If the text is accepted, the tokens in the result are those of the text, and the tree is that of the tokens.
+    // If the text is accepted, the tokens in the result are those of the text, and the syntax tree is that of the tokens.
     ensures tokens { IfOk result (λ v. HasTokens text.now v.tokens.items) }
     ensures tree { IfOk result (λ v. HasTree text.now v.tokens.items v.tree) }
-    // No step of any run of an accepted program accesses freed memory or goes wrong, for every input and without limits.
+    // No step of any run of an accepted program accesses freed memory or goes wrong, for every input and without limits on memory or steps.
     ensures sound { IfOk result (λ v. IsSound (view_program v.program.tree)) }
 {
     let tokens = lex(alloc, text)?;
@@ -54,7 +54,7 @@ pub fn accept(alloc: Global, text: &[u8]) -> Result<Flowed, Fault>
     // If a text is accepted, the result is its typed program. A text is rejected only if the condition of the fault's code holds at the
     // fault's position.
     ensures decides { Decides (IsAcceptedText text.now) (λ p v. view_program v.tree ≡ p) (IsRefusedText text.now) (HasFault text.now) result }
-    // No step of any run of an accepted program accesses freed memory or goes wrong, for every input and without limits.
+    // No step of any run of an accepted program accesses freed memory or goes wrong, for every input and without limits on memory or steps.
     ensures sound { IfOk result (λ v. IsSound (view_program v.tree)) }
 {
     let phases = run_phases(alloc, text)?;

@@ -186,7 +186,7 @@ fn is_free<R: Files>(rt: &R, path: &str) -> bool {
 /// Returns true if two names of files that do not exist yet end at the same name in the same directory.
 fn have_one_end<R: Files + AllocGlobal>(rt: &R, first: &str, second: &str) -> bool {
     let (Ok(mut first), Ok(mut second)) = (end_of_links(rt, first), end_of_links(rt, second)) else {
-        // If the ends of the names cannot be determined, they are taken to be equal.
+        // If the files to which the names' links lead cannot be determined, they are taken to be the same file.
         return true;
     };
     if first.as_path().file_name() != second.as_path().file_name() {
@@ -328,7 +328,7 @@ fn is_too_long<R: Files>(rt: &R, path: &str, length: usize) -> bool {
     is_file && length as u64 > file_limit(rt)
 }
 
-/// Sets the permissions of a file, if they differ.
+/// Sets the permissions of an open file to `mode`, unless the file has them already.
 fn permit(file: &File, mode: u32) -> io::Result<()> {
     let mut permissions = file.metadata()?.permissions();
     if permissions.mode() & PERMISSIONS == mode {

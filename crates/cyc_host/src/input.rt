@@ -6,9 +6,10 @@ use std::{fs, io};
 /// The standard input of the program.
 #[derive(Drop)]
 pub enum Input {
-    /// A regular file. A locked input reads ahead, and when it is dropped, it seeks back over the bytes that were not consumed.
+    /// The standard input is a regular file. While it is locked, it reads ahead, and when the lock is dropped, it seeks back
+    /// over the bytes that were not consumed.
     File(StdinLock<'static>),
-    /// A pipe, a terminal or a device, in which seeking back is not possible.
+    /// The standard input is a pipe, a terminal or a device, in which seeking back is not possible.
     Stream(Stdin),
 }
 

@@ -1,2 +1,2 @@
--- This module is about the ranges of the limits that an image contains.
+-- This module is about the ranges of the limits on pages and calls that an image contains.
 pub mod Limits

@@ -1,2 +1,3 @@
--- This module has the contract of `note_of` on the limits of an image, and the statements about these limits that compilation makes.
+-- This module has the contract of the function `note_of`, which reads the limits in an image, and the statements of compilation
+-- about these limits.
 pub mod Notes

@@ -5,7 +5,7 @@ ghost use Rattle.std.specs.Prelude.{◌↔◌, ℕ};
 ghost use Rattle.cyc_elf.specs.Note.{AreLimits};
 ghost use Rattle.cyc_machine_model.specs.Bounds.{AreAllowed};
 
-/// The ranges of an image's limits are those of every run's limits.
+/// The limits on pages and calls in an image have the same ranges as the limits of every run.
 pub fn note_limits_are_allowed()
     ensures { (limits : ℕ × ℕ) → AreLimits limits ↔ AreAllowed limits.0 limits.1 }
 {}

@@ -1,5 +1,5 @@
 //! This crate has facts about images that the compiler and the emulator share: an image's limits, and the source text from which its
-//! words come.
+//! machine words come.
 #![tactic(auto)]
 
 pub mod laws;

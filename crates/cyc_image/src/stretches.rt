@@ -1,16 +1,17 @@
-//! This file relates an image to the source text of its program: each stretch of consecutive machine words comes from one part of the text.
+//! This file relates an image to the source text of its program: each sequence of consecutive machine words comes from one span of the
+//! text.
 use cyc_words::Span;
 
-/// The part of the program, such as a span of its source text, from which a machine word of an image comes.
+/// The origin of a machine word of an image in the program, such as a span of its source text.
 #[derive(Clone, Copy, Debug, PartialEq, Eq)]
 pub enum Source {
-    /// The word belongs to the code that runs before `main`.
+    /// The machine word comes from the code that runs before `main`.
     Start,
-    /// The word comes from the part of the source text at this span, in the function with this index.
+    /// The machine word comes from the source text at this span, in the function with this index.
     Part { function: usize, span: Span },
-    /// The word belongs to the code that raises a built-in exception for all failed checks of the function with this index.
+    /// The machine word comes from the code that raises a built-in exception for all failed checks of the function with this index.
     Raise { function: usize },
-    /// The word belongs to code, in the function with this index, that passes on an exception that the `try` at this span does not catch.
+    /// The machine word comes from code, in the function with this index, that passes on an exception uncaught by the `try` at this span.
     PassOn { function: usize, span: Span },
 }
 
@@ -23,17 +24,18 @@ pub struct Site {
     pub span: Span,
 }
 
-/// The machine words of an image from an address up to the next stretch; all of them come from one part of the program.
+/// A sequence of consecutive machine words of an image that come from the same span of the program. It begins at this
+/// address and ends where the next sequence begins.
 #[derive(Clone, Copy, Debug, PartialEq, Eq)]
 pub struct Stretch {
     pub address: u32,
     pub source: Source,
-    /// The call for which the words were inlined, if any.
+    /// The inlined call from which the words come, if any.
     pub site: Option<Site>,
 }
 
 impl Stretch {
-    /// Returns the function in whose frame the words of this stretch are executed.
+    /// Returns the function in whose stack frame these machine words are executed.
     pub fn frame_function(&self) -> Option<usize> {
         match (self.site, self.source) {
             (Some(site), _) => Some(site.function),
@@ -56,20 +58,20 @@ pub struct Declared {
     pub has_int: bool,
 }
 
-/// For the words of an image, the parts of the program's source text from which they come.
+/// For the machine words of an image, the spans of the program's source text from which they come.
 #[derive(Drop)]
 pub struct Places {
     /// The declared exceptions, in the order of the numbers that identify them.
     pub exceptions: Vec<Declared>,
     /// The source positions of the names of the functions, in the order of the functions' indices.
     pub functions: Vec<Span>,
-    /// The stretches of machine words that come from one part of the program, for all words of the image's text, in order.
+    /// The sequences of consecutive machine words that come from one span of the program, for all words of the image's text, in order.
     pub stretches: Vec<Stretch>,
-    /// The first address after all stretches of words.
+    /// The first address after the last of the sequences of machine words.
     pub end: u32,
 }
 
-/// Returns the stretch of consecutive words from one part of the program that contains the word at an address.
+/// Returns the sequence of consecutive machine words that come from the same span of the program and include the word at an address.
 pub fn stretch_at(stretches: &[Stretch], address: u32) -> Option<Stretch> {
     let mut found = None;
     let mut low: usize = 0;

@@ -1,4 +1,4 @@
--- The answers to the image commands, for each point at which a command may stop.
+-- Lemmas about the answers to the image commands, for each point of a command's execution at which it may stop.
 use Rattle.std.proofs.Common.{◌≡◌, ◌∙◌, ℕ, suc, ◌+◌, ◌≤◌, List, [], ◌∷◌, map, length, take, drop, Option, Result, Ok, Err, refl, sym, ap, subst, inl, inr, arith}
 use Rattle.std.specs.Prelude.{All}
 use Rattle.std.proofs.lemmas.List.{length-drop, length-take-le}
@@ -20,7 +20,7 @@ use Rattle.cyc_host.specs.declared.answer.Answer.TheVariants.{Done, NoMemory, Wr
 
 -- ---- an image is described by its outline
 
--- Says that the file contains all bytes of the given segments.
+-- Says that the image file contains all bytes of the given segments.
 abbrev pub AreStored : (file : List ℕ) → List ProgramHeader → Type 0
 AreStored file loads = All (λ h. h.offset + h.file_size ≤ length file) loads
 
@@ -55,7 +55,7 @@ pub part_reported : (read : Result ImageContents ElfFault) (file : List ℕ) (o 
 part_reported read file o text old new is stored said written =
     subst (λ r. Describes r old new WriteFault) (sym is) (inr (subst (AppendsPrefix old new) (said ∙ outline_reported file o stored) written))
 
--- If the bytes are not an image, the answer names the fault of the image.
+-- If the bytes are not an image, the answer to the command names the rule for images that they violate.
 describes_fault : (read : Result ImageContents ElfFault) (fault : ElfFault) (old new : Option (List ℕ)) → read ≡ Err fault → Keeps old new → Describes read old new (answer_of_run_fault (faults.Elf fault))
 describes_fault read fault old new is kept = subst (λ r. Describes r old new (answer_of_run_fault (faults.Elf fault))) (sym is) (inr refl, kept)
 

@@ -1,5 +1,5 @@
-//! An instruction listing with the functions and the source lines of the program beside the instructions, from a file of source positions.
-//! The annotated listing is tested but not verified.
+//! An instruction listing that shows the functions and the source lines of the program beside the instructions. The functions and lines
+//! are found by a file of source positions. The annotated listing is tested but not verified.
 use cyc_cli::{FileName, Shown};
 use cyc_host::find_text;
 use cyc_image::{Source, stretch_at};
@@ -66,7 +66,7 @@ impl Text {
         })
     }
 
-    /// Returns a line of the file by its number, counted from 1; the line is empty if the file does not have it.
+    /// Returns a line of the source file by its number, counted from 1; the line is empty if the file does not have it.
     fn line(&self, number: u32) -> &[u8] {
         let place = number.saturating_sub(1) as usize;
         let Some(start) = self.starts.get(place) else {
@@ -78,7 +78,7 @@ impl Text {
     }
 }
 
-/// Returns the source files of a program; the first is the program's own file.
+/// Returns the source files of a program; the first is the one that contains the program itself.
 fn texts_of(rt: &HostRuntime, table: &Table) -> Result<Vec<Text>, AllocError> {
     let mut texts: Vec<Text> = Vec::new(rt.alloc());
     texts.push(Text::named(rt, &table.source)?)?;
@@ -106,7 +106,7 @@ fn address_in(line: &[u8]) -> Option<u32> {
     number_in(line.get(..DIGITS)?)
 }
 
-/// Returns the target address of the branch or jump in a line of a listing, if the line contains one.
+/// Returns the target address of the branch or jump instruction in a line of a listing, if the line contains one.
 fn target_in(line: &[u8]) -> Option<u32> {
     let start = line.len().checked_sub(DIGITS)?;
     let before = line.get(..start)?;
@@ -117,8 +117,8 @@ fn target_in(line: &[u8]) -> Option<u32> {
     }
 }
 
-/// A device that receives a listing and passes on its lines, each with the matching function and source
-/// line. The device for annotated listings passes on at most `left` lines.
+/// A device that receives an instruction listing and passes on its lines, each with the function and
+/// source line of its instruction. The device for annotated listings passes on at most `left` lines.
 #[derive(Drop)]
 pub struct Annotated<'a, W: ByteOut + Drop> {
     alloc: Global,
@@ -135,7 +135,7 @@ pub struct Annotated<'a, W: ByteOut + Drop> {
 }
 
 impl<'a, W: ByteOut + Drop> Annotated<'a, W> {
-    /// Returns a device that passes on to `writer` and has received no bytes yet.
+    /// Returns a device that passes listing lines on to `writer` and has received no bytes yet.
     pub fn new(
         rt: &HostRuntime,
         writer: W,
@@ -190,7 +190,7 @@ impl<'a, W: ByteOut + Drop> Annotated<'a, W> {
         }
     }
 
-    /// Writes the source line of the instruction at an address, unless that line was written last.
+    /// Writes the source line from which the instruction at an address comes, unless that line was written last.
     fn put_source(&mut self, address: u32) -> Result<(), Failed> {
         let table = self.table;
         let Some(stretch) = stretch_at(&table.stretches, address) else {
@@ -246,7 +246,7 @@ impl<'a, W: ByteOut + Drop> Annotated<'a, W> {
         }
     }
 
-    /// Passes on the line of the listing that has just ended.
+    /// Passes on the line of the instruction listing that has just ended.
     fn end_line(&mut self) -> Result<(), Failed> {
         if self.left == 0 {
             return Err(Failed);

@@ -1,4 +1,4 @@
-//! The commands that take an image; they use files and the standard streams.
+//! The commands that take an image; they read and write files and the standard streams.
 use crate::annotated::Annotated;
 use crate::report::RunReport;
 use crate::whereabouts::Whereabouts;
@@ -16,7 +16,7 @@ use cyc_places::{Functions, Table, Unread, sum_of, table_in};
 use std::io;
 use std::io::{IsTerminal, Write};
 
-/// Returns the contents of an image's file of source positions. The file must belong to the image, which a checksum shows.
+/// Returns the contents of an image's file of source positions. A checksum in the file must show that the file was made for this image.
 fn read_table(rt: &HostRuntime, path: &str, image: &[u8]) -> Result<Table, Answer> {
     let file = read_places(rt, path)?;
     match table_in(rt.alloc(), file.as_slice()) {
@@ -61,7 +61,7 @@ fn report_place(rt: &HostRuntime, table: &Table, image: &[u8], input: Option<&[u
     }
 }
 
-/// A run that has stopped, with its limits, its answer and its report.
+/// A run that has stopped, with its limits, its answer and its report of the resources used.
 #[derive(Clone, Copy)]
 struct Ran {
     limits: Limits,
@@ -78,8 +78,8 @@ pub struct Allowance {
     pub manner: Manner,
 }
 
-/// Runs an image on the standard streams, and tells the user why the run stopped before the program ended. Returns the answer and the
-/// report. If source positions are known, the message names the position where the run stopped.
+/// Runs an image on the standard streams, and tells the user why the run stopped before the program ended. Returns the answer to the
+/// run command and the report. If source positions are known, the message names the position where the run stopped.
 fn run_on_streams(
     rt: &HostRuntime,
     image: &[u8],
@@ -108,7 +108,7 @@ fn run_on_streams(
         &mut keyboard,
         &mut screen,
     );
-    // On a terminal, the message about the answer begins on a line of its own.
+    // On a terminal, the message that tells how the run ended begins on a line of its own.
     if screen.is_within_line() && rt.stderr().is_terminal() {
         let _ = rt.eprintln("");
     }
@@ -126,7 +126,7 @@ fn run_on_streams(
     Ok((answer, report))
 }
 
-/// The number of bytes at the beginning of a file that are examined.
+/// The number of bytes at the beginning of a file that are examined to find out if the file is text.
 const MOST_LOOKED_AT: usize = 64;
 
 /// Returns true if a file begins with text characters, as an image never does.
@@ -139,7 +139,7 @@ fn begins_like_text(file: &[u8]) -> bool {
     is_text
 }
 
-/// Runs the image in a file; a file of source positions may be named too.
+/// Runs the image in a file; the user may also name a file of source positions.
 fn run_named(
     rt: &HostRuntime,
     image: &str,
@@ -177,7 +177,7 @@ pub fn run_made(
     }
 }
 
-/// Writes the report of a run to its file. If the writing succeeds, the answer does not change.
+/// Writes the report of a run to the report file. If the writing succeeds, the answer to the command does not change.
 fn write_report(
     rt: &HostRuntime,
     path: &str,
@@ -193,7 +193,8 @@ fn write_report(
     }
 }
 
-/// Writes the report about the outcome of a run to the named file, if one is named. If the writing succeeds, the answer does not change.
+/// Writes the report about the outcome of a run to the report file, if the user names one. If the writing succeeds, the answer to the
+/// command does not change.
 pub fn write_outcome(
     rt: &HostRuntime,
     report: Option<&str>,
@@ -209,8 +210,8 @@ pub fn write_outcome(
     }
 }
 
-/// Rejects a report file that is the same as a file the run reads, because writing the report would replace
-/// it. `of` describes the file that is read.
+/// Rejects a report file that is the same as a file that the run reads, because writing the report would
+/// replace it. `of` describes the file that is read.
 pub fn refuse_report(rt: &HostRuntime, report: &str, read: &str, of: &str) -> Result<(), Answer> {
     if !will_be_one_file(rt, name_of_file(rt, read), report) {
         return Ok(());
@@ -236,8 +237,8 @@ fn refuse_reports(
     refuse_report(rt, report, "/dev/stdin", "input")
 }
 
-/// Runs the command `run IMAGE` on the standard input. If a report file is named, it is written however the run ends, even if no run took
-/// place.
+/// Runs the command `run IMAGE` on the standard input. If the user names a report file, it is written however the run ends, even if no
+/// run took place.
 pub fn run_file(
     rt: &HostRuntime,
     image: &str,
@@ -265,8 +266,8 @@ fn list_placed(
     }
 }
 
-/// Runs the command `disasm IMAGE`. If a number is given, at most that number of lines is printed. If a file of source positions is given,
-/// which must belong to the image, the functions and source lines of the program appear beside the instructions.
+/// Runs the command `disasm IMAGE`. If a number is given, at most that number of lines is printed. If a file of source positions, made for
+/// this image, is given, the functions and source lines of the program appear beside the instructions.
 pub fn list_file(
     rt: &HostRuntime,
     image: &str,
@@ -294,8 +295,8 @@ fn print_functions(rt: &HostRuntime, table: &Table) -> io::Result<()> {
     output.flush()
 }
 
-/// Runs the command `info IMAGE`. If a file of source positions is given, which must belong to the image, the description is followed
-/// by the program's functions.
+/// Runs the command `info IMAGE`. If a file of source positions is given, which must have been made for the image, the description is
+/// followed by the program's functions.
 pub fn describe_file(
     rt: &HostRuntime,
     image: &str,

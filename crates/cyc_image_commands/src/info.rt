@@ -8,7 +8,7 @@ use cyc_elf::{Outline, ProgramHeader};
 use cyc_machine::constants::{DATA_BASE, DATA_END, TEXT_BASE, TEXT_END};
 use std::fmt;
 
-/// The flags of two kinds of segments: readable (4) and executable (1); readable and writable (2).
+/// The flags of segments of the two kinds: readable and executable (4 and 1), and readable and writable (4 and 2).
 const READ_AND_EXECUTE: u32 = 5;
 
 const READ_AND_WRITE: u32 = 6;
@@ -36,7 +36,7 @@ impl fmt::Display for Address {
     }
 }
 
-/// Returns the name of the machine's memory range in which a segment begins.
+/// Returns the name of the machine's memory range that contains the first address of a segment.
 fn range_of(segment: &ProgramHeader) -> &'static str
     ensures { result.now ≡ range_of (extent_in segment.now) }
 {
@@ -102,8 +102,8 @@ fn is_data(segment: &ProgramHeader) -> bool
         && 0 < segment.memory_size
 }
 
-/// Returns true if an image has the form of this compiler's images. An image of this form has its entry at the start of the code range.
-/// An image of this form has one code segment, one data segment if there are globals, and no other segment.
+/// Returns true if an image has the form of this compiler's images. An image of this form has its entry address at the start of the
+/// code range. An image of this form has one code segment, one data segment if there are globals, and no other segment.
 fn has_form(image: &Outline) -> bool
     ensures { result ≡ has_form image.now.entry (map extent_in image.now.loads.items) }
 {
@@ -127,8 +127,8 @@ fn write_form<W: fmt::Write>(is_ours: bool, f: &mut fmt::Formatter<W>) -> fmt::R
     }
 }
 
-/// The outline of an image. `Display` writes the image's description: its entry, a line for each segment, its limits, and a statement if
-/// it has the form of this compiler's images.
+/// The outline of an image (its entry address, program headers and limits). `Display` writes the image's description: its entry, a line
+/// for each segment, its limits, and a statement if it has the form of this compiler's images.
 #[derive(Drop)]
 pub struct Description<'a>(pub &'a Outline);
 

@@ -1,4 +1,4 @@
-//! The text of `run --report`: the end of a run and its figures, as one JSON object on a line.
+//! The text of `run --report`: the way in which a run ended and the numbers of resources used, as one JSON object on a line.
 ghost use Rattle.std.specs.Prelude.{◌≡◌, IfOk, None, Some, option_map, string_bytes};
 ghost use Rattle.std.specs.Fmt.{WritesOnOk};
 ghost use Rattle.cyc_host.specs.inside.Answer.{cause_words};
@@ -61,7 +61,7 @@ impl fmt::Display for Words {
     }
 }
 
-/// Returns the end of a run, as the first words of the last line that the run prints.
+/// Returns the way in which a run ended, as the first words of the last line that the run prints.
 fn end_words(answer: Answer) -> &'static str
     ensures { result.now ≡ end_words answer }
 {
@@ -82,7 +82,7 @@ fn end_words(answer: Answer) -> &'static str
     }
 }
 
-/// Returns the value that `main` returned, or the int of the uncaught exception, if the run ended in this way.
+/// Returns the value that `main` returned, or the int that the uncaught exception carries, if the run ended in this way.
 fn value_in(answer: Answer) -> Option<i32>
     ensures { result ≡ value_in answer }
 {
@@ -112,7 +112,7 @@ fn cause_in(answer: Answer) -> Option<&'static str>
     }
 }
 
-/// Returns the number of the rule for images that the image violates, if any.
+/// Returns the number of the rule about image files that the image violates, if any.
 fn fault_in(answer: Answer) -> Option<u32>
     ensures { result ≡ fault_in answer }
 {
@@ -122,7 +122,7 @@ fn fault_in(answer: Answer) -> Option<u32>
     }
 }
 
-/// Returns the name of the limit that ended the run, if any.
+/// Returns the name of the limit (such as that on pages) whose exhaustion ended the run, if any.
 fn limit_words(limit: Option<Limit>) -> Option<&'static str>
     ensures { option_map (λ text. text.now) result ≡ limit_words limit }
 {
@@ -159,7 +159,7 @@ fn write_place<W: fmt::Write>(report: Report, f: &mut fmt::Formatter<W>) -> fmt:
     )
 }
 
-/// Returns the peak number of active calls, if it was counted.
+/// Returns the maximal number of simultaneously active calls, if it was counted.
 fn most_calls(peaks: Option<Peaks>) -> Option<u32>
     ensures { result ≡ option_map (λ (p : Peaks). p.calls) peaks }
 {
@@ -169,7 +169,7 @@ fn most_calls(peaks: Option<Peaks>) -> Option<u32>
     }
 }
 
-/// Returns the peak number of pages in use, if it was counted.
+/// Returns the maximal number of pages in use at once, if it was counted.
 fn most_pages(peaks: Option<Peaks>) -> Option<u32>
     ensures { result ≡ option_map (λ (p : Peaks). p.pages) peaks }
 {
@@ -206,7 +206,8 @@ fn write_figures<W: fmt::Write>(report: Option<Report>, f: &mut fmt::Formatter<W
     }
 }
 
-/// The outcome of a run, with its report if the run reached a stop. `Display` writes the outcome as a JSON object and a line feed.
+/// The outcome of a run, with its report if the run was executed until it stopped. `Display` writes the outcome as a JSON object
+/// and a line feed.
 #[derive(Drop)]
 pub struct RunReport {
     pub answer: Answer,
@@ -214,7 +215,7 @@ pub struct RunReport {
 }
 
 impl RunReport {
-    /// Returns the JSON object as the bytes of a file.
+    /// Returns the JSON object of the report as the bytes of a file.
     pub fn text(&self, alloc: Global) -> Result<String, AllocError>
         ensures { IfOk result (λ text. string_bytes text ≡ report_text self.now.answer self.now.report) }
     {

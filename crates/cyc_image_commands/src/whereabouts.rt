@@ -45,13 +45,13 @@ impl Whereabouts<'_> {
         }
     }
 
-    /// Writes the source position that begins a line of the call stack.
+    /// Writes, at the beginning of a line of the call stack, the source position.
     fn write_place<W: fmt::Write>(&self, span: Span, f: &mut fmt::Formatter<W>) -> fmt::Result {
         let (file, line) = self.table.home_of(span.line);
         write!(f, "{}:{line}:{}: ", FileName(file), span.column)
     }
 
-    /// Writes the function's name that ends a line of the call stack.
+    /// Writes, at the end of a line of the call stack, the name of the function.
     fn write_function<W: fmt::Write>(
         &self,
         function: usize,
@@ -126,13 +126,14 @@ impl fmt::Display for Whereabouts<'_> {
         self.write_stop(f)?;
         let reported = self.reported_count();
         for address in self.trail.calls.iter().take(reported) {
-            // A function that contains calls is never inlined, so the call's position lies in the function's own code.
+            // A function that contains calls is never inlined, so the source position of a call lies in the code of
+            // the function that is active.
             if let Some((call, _)) = self.place_of(*address) {
                 self.write_call(call, f)?;
             }
         }
         let left = self.trail.calls.len().saturating_sub(reported);
-        // At most one of the recorded calls is omitted from the output.
+        // At most one of the calls that the machine recorded is omitted from the printed call stack.
         match self.trail.others.saturating_add(left.min(1) as u32) {
             0 => Ok(()),
             others => write!(f, "    .. and {others} more calls\n"),

@@ -1,4 +1,4 @@
-//! The commands on an image, over byte arrays, a reader and a writer.
+//! The commands on an image, which work on byte arrays, an input device and an output device.
 ghost use Rattle.std.specs.Prelude.{◌≡◌, is_some, IfOk, IfErr};
 ghost use Rattle.cyc_elf.specs.Reading.{reading};
 ghost use Rattle.cyc_emulator.specs.Engine.{AnswersAnew};
@@ -18,8 +18,8 @@ use cyc_words::{ByteIn, ByteOut, Failed};
 use std::alloc::Global;
 use std::io::{Read, Write};
 
-/// Returns the limits of a run of an image: each limit is the given one, else the image's, else the default, but never above its cap.
-/// If the bytes are not an image, the answer is that of a run.
+/// Returns the limits of a run of an image: each limit is the user's, else the image's, else the default, but never above its cap. If
+/// the bytes are not an image, the answer is that of running them.
 pub fn limits_of_run(
     alloc: Global,
     image: &[u8],
@@ -35,11 +35,11 @@ pub fn limits_of_run(
     }
 }
 
-/// The options of a run: the heap implementation, and a flag for counting peaks.
+/// The options of a run: the heap implementation, and a flag that tells if the maximal numbers of calls and pages are counted.
 #[derive(Clone, Copy)]
 pub struct Manner {
     pub store: StoreKind,
-    /// True if the peaks of calls and pages are counted, which only the pool of pages supports.
+    /// True if the maximal numbers of active calls and pages are counted, which only the heap as a pool of pages supports.
     pub counting: bool,
 }
 
@@ -67,7 +67,8 @@ fn run_as<R: ByteIn, W: ByteOut>(
     }
 }
 
-/// Runs an image with the given input device, output device and options. Returns the answer and the report.
+/// Runs an image with the given input device, output device and options. Returns the answer to the run
+/// command and the report of the resources used.
 fn run_between<R: ByteIn, W: ByteOut>(
     alloc: Global,
     image: &[u8],
@@ -125,7 +126,7 @@ pub fn list_image<W: Write + Drop>(alloc: Global, image: &[u8], screen: &mut Scr
     finish_for(screen, answer)
 }
 
-/// A device that accepts at most `left` lines, and fails after them.
+/// An output device that accepts at most `left` lines, and fails after them.
 #[derive(Drop)]
 struct FirstLines<W: ByteOut + Drop> {
     writer: W,
@@ -150,7 +151,8 @@ impl<W: ByteOut + Drop> ByteOut for FirstLines<W> {
     }
 }
 
-/// Returns the answer of a listing. A write failure counts as success if the device failed because no line was left.
+/// Returns the answer to a command that lists instructions. A write failure counts as success if the device failed
+/// because it accepts no more lines.
 fn answer_with(answer: Answer, left: u32) -> Answer {
     match answer {
         Answer::WriteFault if left == 0 => Answer::Done,
@@ -158,7 +160,7 @@ fn answer_with(answer: Answer, left: u32) -> Answer {
     }
 }
 
-/// Lists the instructions of an image to a device that adds source positions to them.
+/// Lists the instructions of an image to an output device that adds source positions to them.
 pub fn list_annotated<W: Write + Drop>(
     alloc: Global,
     image: &[u8],

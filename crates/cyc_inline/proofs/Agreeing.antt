@@ -1,4 +1,4 @@
--- Lemmas about two maps from slots to words that agree; one map may be shifted.
+-- Lemmas about two maps from slots to machine words that hold equal words; in one map the slot numbers may be shifted.
 use Rattle.std.proofs.Common.{◌≡◌, ℕ, ◌+◌, ◌<◌, ◌≤◌, refl, sym, ap, ◌∙◌, arith, inl, inr}
 use Rattle.std.specs.Prelude.{◌==◌, ◌&&◌, ◌-◌}
 use Rattle.std.proofs.lemmas.Bool.{cases_lt, cases_eq}
@@ -12,22 +12,23 @@ use Rattle.cyc_plain.specs.inside.WellFormed.{IsOperand}
 use Rattle.cyc_plain.proofs.SlotLaws.{put-same, put-other, copied-inside, copied-below, copied-above}
 use Rattle.cyc_inline.specs.inside.Opened.{shifted_operand}
 
--- Says that the first `count` slots hold equal words in both maps.
+-- Says that the first `count` slots hold equal machine words in the two slot maps.
 abbrev pub Agree : (count : ℕ) → Words → Words → Type 0
 Agree count a b = (k : ℕ) → k < count → b k ≡ a k
 
--- The map of the slots from number `shift` on, renumbered from 0.
+-- The slot map restricted to the slots from number `shift` on, which are renumbered from 0.
 abbrev pub from_slot : (shift : ℕ) → Words → Words
 from_slot shift words = λ (k : ℕ). words (shift + k)
 
--- A slot map shifted by 0 agrees with the map itself.
+-- If a slot map is shifted by 0, it holds the same words in the same slots as before.
 pub agree_here : (count : ℕ) (a b : Words) → Agree count a (from_slot 0 b) → Agree count a b
 agree_here count a b agree k below = ap b (let e : k ≡ 0 + k = omega arith in e) ∙ agree k below
 
 pub agree_from : (count : ℕ) (a b : Words) → Agree count a b → Agree count a (from_slot 0 b)
 agree_from count a b agree k below = ap b (let e : 0 + k ≡ k = omega arith in e) ∙ agree k below
 
--- Two slot maps still agree after one word is written to both.
+-- If two slot maps hold equal words, they still do after the same word is written to the same slot
+-- of both (up to the shift of slot numbers).
 pub put_at : (a b : Words) (number other word same k at : ℕ) (shift : ℕ) → other ≡ shift + number → at ≡ shift + k → same ≡ word → b at ≡ a k → put b other same at ≡ put a number word k
 put_at a b number other word same k at shift there here is agree = elim (cases_eq k number) [
   | inl equal ↦
@@ -44,7 +45,7 @@ put_agree count number word a b agree k below = put_at a b number number word wo
 pub put_shifted : (count shift number word same : ℕ) (a b : Words) → same ≡ word → Agree count a (from_slot shift b) → Agree count (put a number word) (from_slot shift (put b (shift + number) same))
 put_shifted count shift number word same a b is agree k below = put_at a b number (shift + number) word same k (shift + k) shift refl refl is (agree k below)
 
--- Two slot maps still agree after equal words are copied in both maps.
+-- If two slot maps hold equal words, they still do after equal words are copied within both (up to the shift of slot numbers).
 pub copied_at : (a b to onto : Words) (source from count destination other k at shift : ℕ) → other ≡ shift + destination → at ≡ shift + k
     → ((j : ℕ) → j < count → b (from + j) ≡ a (source + j)) → onto at ≡ to k → copied b from count onto other at ≡ copied a source count to destination k
 copied_at a b to onto source from count destination other k at shift there here same agree = elim (cases_lt k destination) [

@@ -1,4 +1,5 @@
--- The chosen calls and duplicates satisfy the conditions for inlining, and the numbers in the code fit machine words.
+-- The calls chosen for inlining and the chosen duplicates satisfy the conditions for inlining, and the numbers in the
+-- code fit machine words.
 use Rattle.std.proofs.Common.{◌≡◌, ℕ, zero, suc, ◌+◌, ◌^◌, ◌<◌, ◌≤◌, Bool, true, false, List, [], ◌∷◌, ◌++◌, length, Option, Some, None, refl, sym, ap, subst, ◌∙◌, arith, inl, inr}
 use Rattle.std.specs.Prelude.{◌⊎◌, ◌==◌, nat_lt, nat_le, if◌then◌else◌, not, ◌&&◌, filter, slice_get, sum_by}
 use Rattle.std.specs.List.{AllByRecursion}
@@ -57,7 +58,7 @@ call_is (instructions.Call callee arguments count result) line call is = go (lin
         some_line (suc n) is = omega arith
 call_is i line call is = absurd (let e : None ≡ Some call = is in cc)
 
--- Each instruction of a plain program is well-formed.
+-- Each instruction of a plain program (a program in three-address code that satisfies `IsPlain`) is well-formed.
 pub in_code : (program : Program) (number index : ℕ) (i : Instruction) → IsPlain program → number < length program.functions → At (routine_at program number).code index i
     → IsInRange program (routine_at program number) i
 in_code program number index i plain is_function at =
@@ -295,7 +296,7 @@ no_calls program r chosen slots none same = record {
   frame = inl same;
 }
 
--- If a list is extended by one element, each positive element of the new list is an old element or the new last one.
+-- If a list of numbers is extended by one number, each positive number of the new list is in the old list or is the new last one.
 pub last_line : (lines : List ℕ) (line : ℕ) (k : ℕ) → 0 < place_in (lines ++ line ∷ []) k
     → (place_in (lines ++ line ∷ []) k ≡ place_in lines k) ⊎ ((k ≡ length lines) × (place_in (lines ++ line ∷ []) k ≡ line))
 last_line [] line zero is = inr (refl, refl)
@@ -330,7 +331,7 @@ length_more old new need index long by =
     let longer : length new.chosen.items ≡ length (old.chosen.items ++ by.line ∷ []) = ap (λ (lines : List ℕ). length lines) by.chosen in
     omega (arith, longer, length-append old.chosen.items (by.line ∷ []), long)
 
--- The choice of calls to inline stays valid if one more instruction is added, chosen or not.
+-- The record of the calls chosen for inlining stays valid if one more instruction is added, chosen or not.
 module _ (program : Program) (r : Routine) (old new : Choice) (need : Option Need) (index : ℕ) (i : Instruction) (at : At r.code index i)
     (long : length old.chosen.items ≡ index) (are : AreChosen program r old.chosen.items old.slots) (by : IsChosenBy old new need)
     (needed : (it : Need) → need ≡ Some it → IsNeed program r i it) (small : r.frame_count ≤ MOST_FRAME_WORDS) where

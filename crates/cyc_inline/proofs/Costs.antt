@@ -16,8 +16,8 @@ use Rattle.cyc_plain.proofs.Steps.{place_known}
 use Rattle.cyc_inline.specs.declared.origin.Origin.{Origin}
 use Rattle.cyc_inline.specs.inside.Opened.{origin_at, origins_of}
 
--- Lists the code positions of the inlined program that are made from a given source
--- instruction; equality of source instructions is decidable.
+-- Lists the code positions of the inlined program that are made from a given source instruction; it
+-- is decidable if two source instructions are equal.
 module _ {P Q : Type 0} (same : P → P → Bool) (is : (p r : P) → same p r ≡ true → p ≡ r) (origin : Q → P) where
   abbrev pub made_of : List Q → P → List Q
   made_of [] p = []
@@ -28,7 +28,7 @@ module _ {P Q : Type 0} (same : P → P → Bool) (is : (p r : P) → same p r �
   own_sum price q qs p true e = sum_by-cons price q (made_of qs p)
   own_sum price q qs p false e = omega arith
 
-  -- If a list has no duplicates and a cost is charged for one of its elements, the total is that cost.
+  -- If a list has no duplicates and only one of its elements is charged a cost, the total over the list is that cost.
   none_there : (x : ℕ) (r : P) (ps : List P) → AllByRecursion (λ p. r ≢ p) ps → sum_by (λ (p : P). if same p r then x else 0) ps ≡ 0
   none_there x r [] apart = refl
   none_there x r (p ∷ ps) (first, rest) =
@@ -107,7 +107,7 @@ same_is p q same =
 is_same : (p q : CodePlace) → p ≡ q → same_place p q ≡ true
 is_same p q e = and_from (p.function == q.function) (p.index == q.index) (eq-eqb p.function q.function (ap (λ (x : CodePlace). x.function) e)) (eq-eqb p.index q.index (ap (λ (x : CodePlace). x.index) e))
 
--- The code positions of one function, and those of all functions from a given function on.
+-- The list of the code positions of one function, and the list of those of all functions from a given function on.
 one_function : (function index count : ℕ) → map (place_at function) (range_with_len index count) ≡ places_after function index count
 one_function function index zero = refl
 one_function function index (suc count) = ap (λ (places : List CodePlace). place_at function index ∷ places) (one_function function (index + 1) count)

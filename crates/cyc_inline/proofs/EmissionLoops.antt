@@ -13,7 +13,7 @@ use Rattle.cyc_inline.specs.inside.Opened.{passing}
 use Rattle.cyc_inline.specs.inside.Sites.{chosen_call, place_in}
 use Rattle.cyc_inline.specs.inside.Emission.{part, part_origins, part_count, opened_code, opened_origins, opened_places, opened_end}
 
--- Emitting the move of one more word extends the list of emitted moves.
+-- If the move of one more machine word is emitted, the emitted moves are those of one word more.
 pub passed_next : (destination source count word : ℕ) (all old new : List Instruction) → word < count
     → new ≡ old ++ instructions.Move (destination + word) (operands.Slot (source + word)) ∷ []
     → old ++ passing (destination + word) (source + word) (count - word) ≡ all
@@ -30,7 +30,7 @@ passed_next destination source count word all old new below is before =
     ∙ ap (λ (n : ℕ). one ++ passing (destination + (word + 1)) n (count - (word + 1))) from)
     before
 
--- Assigning a code position to one more instruction extends the table of positions.
+-- If a code position is assigned to one more instruction, the table of code positions is that of one instruction more.
 pub placed_next : (program : Program) (chosen : List ℕ) (front_at : ℕ → Instruction → List Instruction) (in_line : Bool) (code : List Instruction) (index here count : ℕ) (i : Instruction) (all old new : List ℕ) → At code index i
     → new ≡ old ++ here ∷ [] → count ≡ part_count program in_line (chosen_call i (place_in chosen index)) (length (front_at index i))
     → old ++ opened_places program chosen front_at in_line index here (drop index code) ≡ all
@@ -55,7 +55,7 @@ ended_next program chosen front_at in_line code index here count all i at many b
     ∙ ap (λ (n : ℕ). opened_end program chosen front_at in_line (index + 1) (here + n) (drop (index + 1) code)) (sym many))
     ∙ before
 
--- Emitting the replacement of one more instruction extends the emitted code.
+-- If the replacement of one more instruction is emitted, the code emitted so far is extended by exactly this replacement.
 pub opened_next : (program : Program) (number : ℕ) (chosen : List ℕ) (front_at : ℕ → Instruction → List Instruction) (place rest : ℕ → ℕ) (in_line : Bool) (code : List Instruction) (index : ℕ) (i : Instruction) (all old new : List Instruction)
     → At code index i → new ≡ old ++ part program number place rest in_line index i (chosen_call i (place_in chosen index)) (front_at index i)
     → old ++ opened_code program number chosen front_at place rest in_line index (drop index code) ≡ all
@@ -69,7 +69,8 @@ opened_next program number chosen front_at place rest in_line code index i all o
     ∙ ap (λ (n : ℕ). here ++ opened_code program number chosen front_at place rest in_line n (drop (index + 1) code)) next)
     before
 
--- Emitting the replacement of one more instruction extends the list of source instructions from which the code is made.
+-- If the replacement of one more instruction is emitted, the list that records the source instruction of each emitted
+-- instruction is extended accordingly.
 pub opened_origins_next : (program : Program) (number : ℕ) (chosen : List ℕ) (front_at : ℕ → Instruction → List Instruction) (in_line : Bool) (code : List Instruction) (index : ℕ) (i : Instruction) (all old new : List Origin)
     → At code index i → new ≡ old ++ part_origins program number in_line index (chosen_call i (place_in chosen index)) (length (front_at index i))
     → old ++ opened_origins program number chosen front_at in_line index (drop index code) ≡ all
@@ -94,7 +95,8 @@ pub front_origins : (origin : Origin) (all_hoisted duplicate : List Instruction)
 front_origins origin [] duplicate = replicate_last origin (length duplicate)
 front_origins origin (x ∷ all_hoisted) duplicate = ap (λ (os : List Origin). origin ∷ os) (front_origins origin all_hoisted duplicate)
 
--- If a condition on a successful result implies another condition, the result satisfies the other condition too.
+-- If a function's successful result satisfies a condition that implies another condition, then the result
+-- satisfies the other condition too.
 pub then_ok : {T : Type 0} {P Q : Type 0} (result : Result T AllocError) → OnOk result P → (P → Q) → OnOk result Q
 then_ok (Ok value) holds next = next holds
 then_ok (Err e) holds next = tt

@@ -1,4 +1,5 @@
--- Lemmas about lists with one piece for each instruction of a code, and about the position of each piece.
+-- Lemmas about a list that is the concatenation of one piece (a short list) for each instruction of a
+-- code. The lemmas are also about the index in the list at which each piece begins.
 use Rattle.std.proofs.Common.{◌≡◌, ℕ, zero, suc, ◌+◌, ◌<◌, ◌≤◌, List, [], ◌∷◌, ◌++◌, length, replicate, Some, None, slice_get, refl, sym, ap, subst, ◌∙◌, arith, length-append}
 use Rattle.std.specs.List.{AllByRecursion}
 use Rattle.cyc_words.proofs.Lists.{all_append}
@@ -10,7 +11,7 @@ use Rattle.cyc_inline.specs.inside.Opened.{AreMadeOf}
 
 -- ---- sublists at an index
 
--- Says that the list `part` occurs in the list `all` from index `at` on.
+-- Says that the list `part` occurs as consecutive elements in the list `all` from index `at` on.
 abbrev pub StandsAt : {A : Type 0} → (all part : List A) → (at : ℕ) → Type 0
 StandsAt {A} all part at = (k : ℕ) (x : A) → slice_get part k ≡ Some x → slice_get all (at + k) ≡ Some x
 
@@ -25,7 +26,7 @@ stands_at_back all front back at stands k x is =
     let same : at + length front + k ≡ at + (length front + k) = omega arith in
     ap (slice_get all) same ∙ stands (length front + k) x (slice_get_back front back k ∙ is)
 
--- If a part occurs in a list, it also occurs in the list with a prefix added, at an index shifted by the prefix's length.
+-- If one list occurs in another, it also occurs there after a prefix is added in front, at an index greater by the prefix's length.
 stands_at_after : {A : Type 0} (front all part : List A) (at : ℕ) → StandsAt all part at → StandsAt (front ++ all) part (length front + at)
 stands_at_after front all part at stands k x is =
     let same : length front + at + k ≡ length front + (at + k) = omega arith in
@@ -34,7 +35,7 @@ stands_at_after front all part at stands k x is =
 stands_before : {A : Type 0} (all back part : List A) (at : ℕ) → StandsAt all part at → StandsAt (all ++ back) part at
 stands_before all back part at stands k x is = slice_get_front all back (at + k) x (stands k x is)
 
--- If a part occurs in a list and a smaller part occurs in the part, the smaller part occurs in the list.
+-- If one list occurs within a second list, and the second within a third, then the first list occurs within the third.
 pub stands_within : {A : Type 0} (all part smaller : List A) (at inner : ℕ) → StandsAt all part at → StandsAt part smaller inner → StandsAt all smaller (at + inner)
 stands_within all part smaller at inner outer stands k x is =
     let same : at + inner + k ≡ at + (inner + k) = omega arith in
@@ -54,12 +55,12 @@ made_of origins from count origin stands k below = stands k origin (slice_get_re
 
 -- ---- one piece for each instruction
 
--- The concatenation of the pieces of all instructions; the first instruction has index `first`.
+-- The concatenation of the lists that `piece` returns for the instructions of a code; the first instruction has index `first`.
 abbrev pub pieces : {A : Type 0} → (piece : ℕ → Instruction → List A) → (first : ℕ) → List Instruction → List A
 pieces piece first [] = []
 pieces piece first (i ∷ code) = piece first i ++ pieces piece (suc first) code
 
--- The total length of the pieces of the first `k` instructions of a code.
+-- The total length of the lists (pieces) that the first `k` instructions of a code contribute to the concatenated list.
 abbrev pub offset : (count : ℕ → Instruction → ℕ) → (first : ℕ) → List Instruction → (k : ℕ) → ℕ
 offset count first [] k = 0
 offset count first (i ∷ code) zero = 0
@@ -84,7 +85,7 @@ offset_next count first (j ∷ code) (suc k) i at =
     omega (arith, all, offset_next count (suc first) code k i at, there)
 
 module _ {A : Type 0} (piece : ℕ → Instruction → List A) (count : ℕ → Instruction → ℕ) (long : (k : ℕ) (i : Instruction) → length (piece k i) ≡ count k i) where
-  -- The piece of an instruction occurs in the concatenated code, directly after the pieces of all earlier instructions.
+  -- The piece (list) that an instruction contributes occurs in the concatenation directly after the pieces of all earlier instructions.
   pub piece_stands : (first : ℕ) (code : List Instruction) (k : ℕ) (i : Instruction) → At code k i → StandsAt (pieces piece first code) (piece (first + k) i) (offset count first code k)
   piece_stands first [] k i at = absurd (let e : None ≡ Some i = at in cc)
   piece_stands first (j ∷ code) zero i at =
@@ -102,7 +103,8 @@ module _ {A : Type 0} (piece : ℕ → Instruction → List A) (count : ℕ → 
   pieces_long first [] = refl
   pieces_long first (i ∷ code) = omega (arith, length-append (piece first i) (pieces piece (suc first) code), long first i, pieces_long (suc first) code)
 
--- If a property holds for the elements of each piece, it holds for all elements of the concatenated pieces.
+-- If a property holds for the elements of the piece (list) that each instruction contributes, it holds for
+-- all elements of the concatenated pieces.
 pub all_pieces : {A : Type 0} (P : A → Type 0) (piece : ℕ → Instruction → List A) (first : ℕ) (code : List Instruction)
     → ((k : ℕ) (i : Instruction) → At code k i → AllByRecursion P (piece (first + k) i)) → AllByRecursion P (pieces piece first code)
 all_pieces P piece first [] each = tt
@@ -119,7 +121,8 @@ offset_most count first [] k = omega arith
 offset_most count first (i ∷ code) zero = omega arith
 offset_most count first (i ∷ code) (suc k) = omega (arith, offset_most count (suc first) code k)
 
--- The offset of each instruction's piece is below the total length, because no piece is empty.
+-- The index at which an instruction's piece begins in the concatenation is below the total length,
+-- because each instruction contributes at least one element.
 pub offset_below : (count : ℕ → Instruction → ℕ) → ((k : ℕ) (i : Instruction) → 1 ≤ count k i) → (first : ℕ) (code : List Instruction) (k : ℕ) → k < length code
     → offset count first code k < offset count first code (length code)
 offset_below count some first [] k below = absurd (omega (arith, below))

@@ -25,7 +25,8 @@ use Rattle.cyc_inline.proofs.EmissionSites.{is_site, site_long, site_origins_lon
 
 -- ---- the tables of places
 
--- The number of instructions in an instruction's replacement: in the part placed in line, or in the part placed after the caller's code.
+-- The number of instructions in an instruction's replacement: of those placed where the instruction was, or of those placed after the
+-- caller's code.
 abbrev pub count_at : Program → List ℕ → (front_at : ℕ → Instruction → List Instruction) → (in_line : Bool) → (index : ℕ) → Instruction → ℕ
 count_at program chosen front_at in_line index i = part_count program in_line (chosen_call i (place_in chosen index)) (length (front_at index i))
 
@@ -57,7 +58,7 @@ place_most program chosen front_at in_line first here [] (suc k) = omega arith
 place_most program chosen front_at in_line first here (i ∷ code) zero = end_least program chosen front_at in_line first here (i ∷ code)
 place_most program chosen front_at in_line first here (i ∷ code) (suc k) = place_most program chosen front_at in_line (suc first) (here + count_at program chosen front_at in_line first i) code k
 
--- The tables of code positions that the crate emits satisfy `AreParts`.
+-- The tables of code positions that the crate computes for a function with inlined calls satisfy `AreParts`, their specification.
 pub parts_are : (program : Program) (number : ℕ) (choice : Choice) (places rests : List ℕ) (table rest : Places) → IsPlain program → number < length program.functions
     → AreChosen program (routine_at program number) choice.chosen.items choice.slots → choice.slots < 2 ^ 64
     → places ≡ table.places.items → table.places.items ≡ opened_places program choice.chosen.items (front_by program number choice) true 0 0 (routine_at program number).code
@@ -131,8 +132,8 @@ module _ (program : Program) (number : ℕ) (chosen : List ℕ) (front_at : ℕ 
 
 -- ---- the function of these parts
 
--- Says that a function's code, and the list of the source instructions from which its instructions
--- are made, are built from the given parts.
+-- Says that a function's code is built from the chosen calls, the instructions put before each instruction, and the tables of code
+-- positions. It says the same of the list of the source instructions from which the code is made.
 pub record IsOf (program : Program) (number : ℕ) (chosen : List ℕ) (front_at : ℕ → Instruction → List Instruction) (places rests : List ℕ) (s : Routine) (origins : List Origin) : Type 0 where
   pub parts : AreParts program number chosen front_at places rests s.slots
   pub name : s.name ≡ (routine_at program number).name
@@ -157,11 +158,12 @@ module _ (program : Program) (number : ℕ) (chosen : List ℕ) (front_at : ℕ 
   abbrev rest : ℕ → ℕ
   rest = place_in rests
 
-  -- The code position where an instruction's replacement begins: the part placed in line, or the part placed after the caller's code.
+  -- The code position where an instruction's replacement begins: the instructions placed where the instruction was, or those placed
+  -- after the caller's code.
   abbrev pub begins : (in_line : Bool) → (k : ℕ) → ℕ
   begins in_line k = if in_line then place k else rest k
 
-  -- The code position where a function's own code begins, or the parts of inlined callees that are placed after it.
+  -- The code position where a function's own code begins or, for inlined callees, where their instructions begin that are placed after it.
   abbrev pub begin : (in_line : Bool) → ℕ
   begin in_line = if in_line then 0 else opened_end program chosen front_at true 0 0 r.code
 
@@ -271,7 +273,7 @@ module _ (program : Program) (number : ℕ) (chosen : List ℕ) (front_at : ℕ 
       let (here, nothing) = has_at s.code (moved 0 place i ∷ []) (place k) own.code in
       (here, own.made, own.next)
 
-  -- The instructions put before an instruction satisfy the condition `MayPrecede`.
+  -- The hoisted instructions and the duplicate that are put before an instruction satisfy `MayPrecede`, the condition for being there.
   may_precede : (i : Instruction) (front : List Instruction) → AllByRecursion (λ (x : Instruction). (may_hoisted (length program.globals) r.slots s.slots x ≡ true) ⊎ IsDuplicate r.slots s.slots i x) front
       → AllByRecursion (MayPrecede r.slots s.slots i) front
   may_precede i [] each = tt

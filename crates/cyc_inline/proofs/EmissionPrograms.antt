@@ -1,4 +1,4 @@
--- Lemmas about a program some of whose functions are replaced, one function after the other.
+-- Lemmas about a program in which some functions are replaced, one function after the other.
 use Rattle.std.proofs.Common.{◌≡◌, ℕ, zero, suc, ◌+◌, ◌<◌, ◌≤◌, List, [], ◌∷◌, ◌++◌, length, Option, Some, None, map, max, slice_get, refl, sym, ap, subst, ◌∙◌, arith, inl, inr}
 use Rattle.std.specs.Prelude.{◌⊎◌, sum_by, slice_index_or}
 use Rattle.std.proofs.lemmas.Bool.{cases_lt}
@@ -110,7 +110,7 @@ sum_changed (r ∷ rs) (d ∷ cs) c below =
     let rest = sum_changed rs cs c (omega (arith, below)) in
     omega (arith, head, other, rest)
 
--- The invariant `AreBegun` holds before any function is replaced.
+-- The loop invariant `AreBegun`, on the functions replaced so far, holds before any function is replaced.
 pub begun_first : (program : Program) (room spare : ℕ) → sum_by size program.functions ≤ MOST_SIZE
     → (spare ≡ 0) ⊎ ((sum_by size program.functions + spare ≤ room) × (sum_by size program.functions + spare ≤ MOST_SIZE)) → AreBegun program room [] spare
 begun_first program room spare small either = record {
@@ -124,7 +124,7 @@ begun_first program room spare small either = record {
       | inr (first, second) ↦ (omega (arith, first), second)
     ]
 
--- The invariant `AreBegun` still holds after one more function is replaced or kept.
+-- The loop invariant `AreBegun`, on the functions replaced so far, still holds after one more function is replaced or left unchanged.
 pub begun_next : (program : Program) (room : ℕ) (changes : List (Option Made)) (spare : ℕ) (change : Option Made) → AreBegun program room changes spare
     → length changes < length program.functions → IsChange program (length changes) spare change → AreBegun program room (changes ++ change ∷ []) (left_of change spare)
 begun_next program room changes spare change are below is = record {
@@ -217,7 +217,7 @@ module _ (program : Program) (room : ℕ) (given functions : List Function) (cha
   pub whole_inlined : IsInlined program (program_of functions globals main)
   whole_inlined = subst (IsInlined program) (sym same) (are_inlined program routines (all_origins 0 program.functions changes) plain made small)
 
-  -- The program with replaced functions has at most `room` words, or at most as many words as the source program.
+  -- The program with replaced functions has at most `room` words of machine code, or at most as many as the source program.
   pub whole_small : sum_by size (map routine_of functions) ≤ max (sum_by size program.functions) room
   whole_small = (let (first, second) = begun.most in let equal = ap (λ (rs : List Routine). sum_by size rs) functions_are in omega (arith, first, equal))
 

@@ -1,4 +1,5 @@
--- The emitted code of an inlined call satisfies `IsSite` at any code position.
+-- The code that the crate emits for an inlined call satisfies `IsSite`, the specification of such
+-- code, at whichever code position it begins.
 use Rattle.std.proofs.Common.{◌≡◌, ℕ, zero, suc, ◌+◌, ◌<◌, ◌≤◌, Bool, true, false, List, [], ◌∷◌, ◌++◌, length, replicate, Option, Some, None, slice_get, refl, sym, ap, subst, ◌∙◌, arith, inl, inr, append_assoc, length-append}
 use Rattle.std.specs.Prelude.{◌==◌, nat_lt, if◌then◌else◌}
 use Rattle.std.proofs.lemmas.Bool.{cases_lt, eqb-true, le-leb, false≢true}
@@ -37,8 +38,8 @@ part_long site place index i (Some value) =
     )
 part_long site place index i None = refl
 
--- The replacement of a callee's instruction in the part placed at the call or after the caller's code; empty in
--- the part without the instruction.
+-- The replacement of a callee's instruction at the call or after the caller's code; it is empty for the one of
+-- these two where the instruction is not placed.
 abbrev pub piece_inside : Site → (place : ℕ → ℕ) → (in_line : Bool) → (index : ℕ) → Instruction → List Instruction
 piece_inside site place in_line index i = if stands_in in_line site.call.line index then inside_part site place index i (is_end i) else []
 
@@ -85,7 +86,7 @@ rest_place results line first here there (i ∷ code) (suc k) within past =
     let rest = rest_place results line (suc first) (here + count_inside results line true first i) (there + count_inside results line false first i) code k (omega (arith, within)) (omega (arith, past)) in
     omega (arith, rest)
 
--- The callee's instructions after its in-line part contribute nothing to the code placed at the call.
+-- Those of the callee's instructions that are not placed at the call contribute nothing to the code there.
 none_past : (results line first : ℕ) (code : List Instruction) (k : ℕ) → line ≤ first → offset (count_inside results line true) first code k ≡ 0
 none_past results line first [] k past = refl
 none_past results line first (i ∷ code) zero past = refl
@@ -142,11 +143,13 @@ module _ (program : Program) (code : List Instruction) (origins : List Origin) (
   abbrev counts : (in_line : Bool) → ℕ → Instruction → ℕ
   counts in_line = count_inside site.results site.call.line in_line
 
-  -- The code position where an inlined call's part placed at the call begins, or its part placed after the caller's code.
+  -- The code position where the code of an inlined call begins: the instructions placed at the call, or those placed
+  -- after the caller's code.
   abbrev begin : (in_line : Bool) → ℕ
   begin in_line = if in_line then first else site.rest
 
-  -- Says that a callee's instruction is in the part placed at the call or after the caller's code, at the position that the table states.
+  -- Says that a callee's instruction is placed at the call or after the caller's code, at the code position that the table of code
+  -- positions gives for it.
   record IsThere (k : ℕ) : Type 0 where
     pub in_line : Bool
     pub stands : stands_in in_line site.call.line k ≡ true
@@ -194,8 +197,8 @@ module _ (program : Program) (code : List Instruction) (origins : List Origin) (
         (stands_within origins (pieces piece 0 t.code) (piece k i) (begin is.in_line) (offset (counts is.in_line) 0 t.code k) whole
         (subst (λ (n : ℕ). StandsAt (pieces piece 0 t.code) (piece n i) (offset (counts is.in_line) 0 t.code k)) same inner))))
 
-    -- In each part of an inlined call's code, the offset of the callee's next instruction is that of the current one plus its
-    -- replacement's size.
+    -- At the call and after the caller's code, the offset of the callee's next instruction is that of the current one plus
+    -- the size of its replacement there.
     further : (in_line : Bool) (k : ℕ) (i : Instruction) → At t.code k i → stands_in in_line site.call.line k ≡ true
         → offset (counts in_line) 0 t.code (k + 1) ≡ offset (counts in_line) 0 t.code k + inside_count site.results site.call.line k (is_end i)
     further in_line k i at is =
@@ -274,7 +277,8 @@ module _ (program : Program) (code : List Instruction) (origins : List Origin) (
 
 -- ---- the inlined call
 
--- The caller's code contains the callee's code if the part placed at the call and the part after the caller's code are at their positions.
+-- The caller's code contains the whole code of an inlined callee if it contains the instructions placed at the call and those placed after
+-- the caller's code, each at its position.
 module _ (program : Program) (r s : Routine) (origins : List Origin) (number index here following rest : ℕ) (call : Call) (openable : IsOpenable program r s.slots call)
     (routine : IsRoutine program (routine_at program call.callee)) (next : following ≡ here + call_size program true call)
     (stands : (in_line : Bool) → StandsAt s.code (site_code (site_of program r call following rest) in_line here (routine_at program call.callee).code) (if in_line then here else rest))
@@ -350,7 +354,7 @@ module _ (program : Program) (r s : Routine) (origins : List Origin) (number ind
       following_is : following ≡ here + call.count + 1 + inside_size callee.results call.line true 0 callee.code
       following_is = omega (arith, next)
 
--- The length of the code of an inlined call.
+-- The number of instructions that replace an inlined call.
 pub site_long : (site : Site) (in_line : Bool) (here : ℕ) (code : List Instruction) → length (site_code site in_line here code) ≡ site_size site.call site.results in_line code
 site_long site true here code =
     let place = places_inside site here code in

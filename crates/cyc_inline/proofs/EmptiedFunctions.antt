@@ -1,4 +1,4 @@
--- Lemmas for the contracts of the functions that remove unreachable code.
+-- Lemmas for the contracts of the functions that remove the code of unreachable functions from a program.
 use Rattle.std.proofs.Common.{◌≡◌, ℕ, zero, suc, ◌+◌, ◌<◌, ◌≤◌, Bool, true, List, [], ◌∷◌, ◌++◌, length, map, Option, Some, None, slice_get, refl, sym, ap, subst, ◌∙◌, arith, inl, inr, append_assoc}
 use Rattle.std.specs.Prelude.{slice_index_or}
 use Rattle.std.proofs.lemmas.Bool.{cases_lt}
@@ -150,7 +150,7 @@ reported_still program given notes reached many are = record {
       (kept_is_reported (is_reached reached k) (routine_at program k) (routine_at given k) (slice_index_or notes k None) (are.each k below))));
 }
 
--- The program made of the kept functions equals the source program without the code of unreachable functions.
+-- The program made of the functions that the loop returns equals the source program without the code of unreachable functions.
 pub kept_program : (given : Program) (fs gs : List Function) (globals : List ℕ) (main : ℕ) (reached : List Bool) → program_of fs globals main ≡ given
     → map routine_of gs ≡ routines_kept (map routine_of fs) reached → program_of gs globals main ≡ emptied given reached
 kept_program given fs gs globals main reached parts kept =

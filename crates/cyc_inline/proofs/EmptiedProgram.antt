@@ -1,5 +1,5 @@
--- If the unreachable functions of a program keep only a return, the result is a plain program, is no larger, and has only runs of the
--- source program.
+-- If the unreachable functions of a program keep only a return, the result is a plain (well-formed) program, is no larger, and has
+-- only runs of the source program.
 use Rattle.std.proofs.Common.{◌≡◌, ℕ, zero, suc, ◌+◌, ◌*◌, ◌<◌, ◌≤◌, Bool, true, false, List, [], ◌∷◌, length, map, Option, Some, None, slice_get, refl, sym, ap, subst, ◌∙◌, arith, inl}
 use Rattle.std.specs.Prelude.{All, Contains, if◌then◌else◌, flat_map, sum_by}
 use Rattle.std.specs.List.{range_with_len}
@@ -256,8 +256,8 @@ module _ (program : Program) (reached : List Bool) (plain : IsPlain program) (ar
       endings = λ s t ending matches ended. ap status_of matches.0 ∙ ended;
     }
 
-    -- A stack address allowed for a step of the program whose unreachable functions keep only a return
-    -- is also allowed in the source program.
+    -- If the unreachable functions of a program keep only a return, a stack address that is allowed for a step of this program is also
+    -- allowed in the source program.
     lies : (c : Configuration) (base : ℕ) (o : Option ℕ) → MayLie (emptied program reached) base o (Running c) → MayLie program base o (Running c)
     lies c base None may = may
     lies c base (Some function) may = record {

@@ -1,5 +1,5 @@
--- If the unreachable functions of a program keep only a return, the program takes the same steps as before, because no unreachable
--- function is ever called.
+-- If the unreachable functions of a program keep only a return, the program takes the same steps as with their full code, because
+-- no unreachable function is ever called.
 use Rattle.std.proofs.Common.{◌≡◌, ℕ, zero, suc, ◌%◌, ◌<◌, Bool, true, List, [], ◌∷◌, length, Option, Some, None, slice_get, refl, sym, ap, ◌∙◌, arith, inl, inr}
 use Rattle.std.specs.Prelude.{◌==◌, if◌then◌else◌, slice_index_or}
 use Rattle.std.specs.List.{AllByRecursion}

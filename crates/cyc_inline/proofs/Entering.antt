@@ -183,7 +183,7 @@ module _ (program inlined : Program) (origins : List (List Origin)) (are : AreOp
           (Running (entered choice)) (Ended Full c.output c.input) (Running (advanced e)) (Ended Full c.output c.input)
           (within_same choice) (inr (lodged choice)) refl))
 
-  -- The moves of the arguments have no observable effect.
+  -- The moves that copy the arguments of an inlined call to the callee's slots have no observable effect.
   way : (slots : Words) (next : ℕ) → IsOnTheWay (machine program pages calls) (machine inlined pages calls) (Running c) (Running (beside program inlined origins are c (record b { slots = slots; next = next }) gs))
   way slots next =
       way_before (machine program pages calls) (machine inlined pages calls) (matching program inlined origins are plain fine pages calls) (Running c)

@@ -30,7 +30,8 @@ ordinary_calls (instructions.Ask request) ordinary = ordinary
 ordinary_calls (instructions.Enter function) ordinary = ordinary
 ordinary_calls i ordinary = refl
 
--- An ordinary instruction makes the same step for every choice of a stack address.
+-- An instruction that calls no function, opens or closes no exception handler, and takes no slot's
+-- address makes the same step whichever stack address is chosen.
 ordinary_moved : (program : Program) (d : Configuration) (shift : ℕ) (place : ℕ → ℕ) (choice other : Choice) (i : Instruction) → is_ordinary i ≡ true
     → performed program choice d (moved shift place i) ≡ performed program other d (moved shift place i)
 ordinary_moved program d shift place choice other (instructions.Call function arguments count result) ordinary = absurd (let e : false ≡ true = ordinary in cc)
@@ -42,7 +43,7 @@ pub ordinary_limit : (shift : ℕ) (place : ℕ → ℕ) (calls : ℕ) (i : Inst
 ordinary_limit shift place calls (instructions.Enter function) ordinary = absurd (let e : false ≡ true = ordinary in cc)
 ordinary_limit shift place calls i ordinary = refl
 
--- The step of an instruction that calls no function, if the resulting state is within the limits.
+-- Returns the step of an instruction that calls no function, if the resulting state is within the limits on heap pages and active calls.
 pub step_so : (program : Program) (pages calls : ℕ) (c : Configuration) (i : Instruction) (s : State) → instruction_at program (place_of (Running c)) ≡ Some i → calls_nothing i ≡ true
     → performed program zeros c i ≡ s → is_within pages calls s ≡ true → Step program pages calls (Running c) s
 step_so program pages calls c i s at free does within = (
@@ -54,7 +55,8 @@ step_so program pages calls c i s at free does within = (
       ∙ limited-within pages calls (Running c) s within))),
 )
 
--- A state is within the limits if it has at most as many calls, and the same heap pages, as a state within them.
+-- A state is within the limits on heap pages and active calls if another state within them has equally many
+-- pages and at least as many calls.
 pub fewer_within : (pages calls : ℕ) (c d : Configuration) → stores.demand d.store ≡ stores.demand c.store → length d.frames ≤ length c.frames → is_within pages calls (Running c) ≡ true → is_within pages calls (Running d) ≡ true
 fewer_within pages calls c d as_much fewer within =
     let (paged, some) = and_parts (nat_le (stores.demand c.store) pages) (nat_le (suc (length c.frames)) calls) within in
@@ -81,7 +83,8 @@ module _ (program inlined : Program) (origins : List (List Origin)) (are : AreOp
     handlers = l.handlers;
   }
 
-  -- In an inlined call, the inlined program has one active call less than the source program, so it is within the same limits.
+  -- In an inlined call, the inlined program has one active call less than the source program, so it is within the same limits
+  -- on heap pages and active calls.
   pub lodged_within : (pages calls : ℕ) (c : Configuration) (b : Activation) (gs : List Frame) → IsLodged program inlined origins are c b gs → is_within pages calls (Running c) ≡ true
       → is_within pages calls (Running (beside program inlined origins are c b gs)) ≡ true
   lodged_within pages calls c b gs l within =
@@ -183,7 +186,8 @@ module _ (program inlined : Program) (origins : List (List Origin)) (are : AreOp
             abbrev target : ℕ
             target = place (c.active.next + 1)
 
-            -- The code position of the active call in the inlined program after the instruction's step.
+            -- The code position at which the active call of the inlined program continues after the step of an instruction of the inlined
+            -- callee.
             stands_after : place_of (Running below) ≡ place_at b.function (b.next + 1)
             stands_after = λ k. place_at ((g.lodges.slotted.function ∙ (g.caller ∙ sym lodged.slotted.function)) k) (beyond k)
 

@@ -26,7 +26,7 @@ pub mod ChoosingCalls
 pub mod EmissionPieces
 pub mod EmissionSites
 pub mod EmissionPlaces
--- lemmas: the loops that emit code, iteration by iteration
+-- lemmas on the loops that emit code: each iteration keeps the loop's invariant
 pub mod EmissionLoops
 -- lemmas: everything that the emitted code names exists, so an emitted function correctly replaces its source function
 pub mod RangesMoved
@@ -34,10 +34,10 @@ pub mod RangesCode
 pub mod RangesEnds
 pub mod RangesFunction
 pub mod RangesCopied
--- lemmas: the result of inlining is a plain program
+-- lemmas: the result of inlining is a plain program, that is, a well-formed program in three-address code
 pub mod Whole
 pub mod EmissionPrograms
--- lemmas: programs in which unreachable functions have no code
+-- lemmas about programs in which each unreachable function keeps only a return
 pub mod EmptiedSteps
 pub mod EmptiedProgram
 pub mod EmptiedFunctions

@@ -30,7 +30,7 @@ module _ (program inlined : Program) (origins : List (List Origin)) (are : AreOp
     pub frames : c.frames ≡ waits ∷ rest
     pub slotted : AreSlotted program inlined origins are waits.caller b
     pub waiting : AreWaiting program inlined origins are waits.caller.function rest gs
-    -- The call instruction that was inlined: its index, its arguments and its code in the caller.
+    -- The call instruction of the caller that was inlined: its index, its arguments and the code that replaces it.
     pub index : ℕ
     pub arguments : ℕ
     pub count : ℕ
@@ -80,7 +80,7 @@ module _ (program inlined : Program) (origins : List (List Origin)) (are : AreOp
 
     -- ---- the call continues
 
-    -- Says that control falls through or jumps to the code position after an instruction of the inlined call.
+    -- Says that, after an instruction of the inlined call, control falls through or jumps to the given code position.
     abbrev pub Falls : Type 0
     Falls = GoesTo (routine_at inlined lodged.waits.caller.function).code (origins_of origins lodged.waits.caller.function) (b.next + 1) (lodged.site.place (c.active.next + 1)) (origin_at c.active.function c.active.next)
 

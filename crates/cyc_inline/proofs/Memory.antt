@@ -1,5 +1,5 @@
--- Lemmas: memory is the same in the source and the inlined program. The same slots of the same calls have addresses, because
--- no slot of an inlined function has an address.
+-- Lemmas: memory is the same in the source and the inlined program. The addresses of slots denote the same slots of the same
+-- calls in both, because no slot of an inlined function has an address.
 use Rattle.std.proofs.Common.{◌≡◌, ℕ, zero, suc, ◌+◌, ◌-◌, ◌*◌, ◌/◌, ◌<◌, Bool, true, false, ◌&&◌, ◌||◌, List, [], ◌∷◌, Option, Some, None, refl, sym, ap, subst, ◌∙◌, inl, inr}
 use Rattle.std.specs.Prelude.{◌==◌, if◌then◌else◌}
 use Rattle.std.specs.List.{AllByRecursion}
@@ -110,7 +110,7 @@ module _ (program inlined : Program) (origins : List (List Origin)) (are : AreOp
     slots = put_agree (slots_of program inlined origins are a.function) number word a.slots b.slots slotted.slots;
   }
 
-  -- The correspondence of two calls does not depend on their next code positions.
+  -- Two calls, one of the source and one of the inlined program, still correspond if only their next code positions change.
   pub put_next : {a b : Activation} {n m : ℕ} → AreSlotted program inlined origins are a b → AreSlotted program inlined origins are (record a { next = n }) (record b { next = m })
   put_next slotted = record { function = slotted.function; base = slotted.base; handlers = slotted.handlers; records = slotted.records; slots = slotted.slots }
 

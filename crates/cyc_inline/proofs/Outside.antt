@@ -40,7 +40,7 @@ module _ (program inlined : Program) (origins : List (List Origin)) (are : AreOp
   abbrev Match : State → State → Type 0
   Match = Outside program inlined origins are
 
-  -- Says that the source and the inlined program continue with the next instruction.
+  -- Says that the source program and the inlined program both continue with the instruction after the current one.
   abbrev Falls : Type 0
   Falls = b.next + 1 ≡ place (c.active.next + 1)
 
@@ -245,7 +245,8 @@ module _ (program inlined : Program) (origins : List (List Origin)) (are : AreOp
   finished value [] inside = returns_same value inside
   finished value (h ∷ handlers) inside = refl
 
-  -- If states match with the source call's handlers, their targets moved, they match with the handlers of the inlined program's call.
+  -- Two states match with the handlers of the inlined program's call if they match with the source call's handlers after the
+  -- handlers' targets are moved.
   by_handlers : (s : State) (t : List Handler → State) → Match s (t (map (moved_handler place) c.active.handlers)) → Match s (t b.handlers)
   by_handlers s t matches = subst (λ (handlers : List Handler). Match s (t handlers)) (sym slotted.handlers) matches
 

@@ -1,4 +1,4 @@
--- Lemmas about runs through moves that copy words one by one.
+-- Lemmas about runs that execute a sequence of move instructions, each of which copies one machine word.
 use Rattle.std.proofs.Common.{◌≡◌, ℕ, zero, suc, ◌+◌, ◌<◌, true, List, [], ◌∷◌, ◌++◌, length, slice_get, refl, sym, ap, subst, ◌∙◌, arith}
 use Rattle.std.specs.Prelude.{Contains}
 use Rattle.std.specs.List.{AllByRecursion}
@@ -41,7 +41,7 @@ after_inside own function index (suc count) each = (
       (λ k below. subst (λ (n : ℕ). Contains own (place_at function n)) (let e : index + suc k ≡ index + 1 + k = omega arith in e) (each (suc k) (omega (arith, below)))),
 )
 
--- Each position within a piece of code contains an instruction.
+-- If a piece of code occurs in a function's code, there is an instruction at each code position within the piece.
 pub has_each : (code : List Instruction) (p : ℕ) (is : List Instruction) (k : ℕ) → HasAt code p is → k < length is → (i : Instruction) × At code (p + k) i
 has_each code p [] k has below = absurd (omega (arith, below))
 has_each code p (i ∷ is) zero (at, rest) below = (i, ap (slice_get code) (let e : p + 0 ≡ p = omega arith in e) ∙ at)

@@ -35,7 +35,8 @@ module _ (program inlined : Program) (r : Routine) (shift : ℕ) (place : ℕ �
   abbrev d : Configuration
   d = record c { active = b; frames = gs }
 
-  -- The configuration after the active call has advanced to another code position, in the source or in the inlined program.
+  -- The configuration after a step of the active call: only the call's slots and code position, the globals, the output and
+  -- the input have changed.
   abbrev pub gone : (d : Configuration) (slots : Words) (next : ℕ) (globals : Words) (output input : List ℕ) → Configuration
   gone d slots next globals output input = record d { active = record d.active { slots = slots; next = next }; globals = globals; output = output; input = input }
 
@@ -43,7 +44,8 @@ module _ (program inlined : Program) (r : Routine) (shift : ℕ) (place : ℕ �
   abbrev pub IsNext : (to other : ℕ) → Type 0
   IsNext to other = (other ≡ place to) ⊎ ((to ≡ c.active.next + 1) × (other ≡ b.next + 1) × Falls)
 
-  -- The closure conditions that a relation between states of the source and the inlined program must satisfy.
+  -- The conditions under which a relation between states of the source and the inlined program is preserved
+  -- by the effects of ordinary instructions.
   pub record Bears (Match : State → State → Type 0) : Type 0 where
     pub stuck : (output input : List ℕ) → Match (Stuck output input) (Stuck output input)
     pub goes : (slots others : Words) (to other : ℕ) (globals : Words) (output input : List ℕ) → Agree r.slots slots (from_slot shift others) → Agree shift b.slots others → IsNext to other

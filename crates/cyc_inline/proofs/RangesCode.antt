@@ -193,7 +193,8 @@ module _ (program : Program) (number : ℕ) (chosen : List ℕ) (front_at : ℕ 
         fits = omega (arith, next, following, end, most, code_long);
       }
 
-  -- If a property holds for each replacement of an instruction, it holds for the complete code.
+  -- If a property holds for each instruction in the replacement of each source instruction, then it
+  -- holds for the complete code of the new function.
   module _ (P : Instruction → Type 0) (own : (k : ℕ) (i : Instruction) → At r.code k i → P (moved 0 place i))
       (all_hoisted : (x : Instruction) → may_hoisted (length program.globals) r.slots s.slots x ≡ true → P x)
       (duplicates : (k : ℕ) (i x : Instruction) → At r.code k i → IsDuplicate r.slots s.slots i x → P x)

@@ -1,4 +1,4 @@
--- A function made of the emitted parts is well-formed and correctly replaces the source function.
+-- A function made of the emitted code and tables of code positions is well-formed and correctly replaces the source function.
 use Rattle.std.proofs.Common.{◌≡◌, ℕ, ◌+◌, ◌-◌, ◌<◌, ◌≤◌, true, false, List, [], ◌∷◌, length, length-append, Option, Some, None, slice_get, refl, sym, ap, subst, ◌∙◌, arith, inl, inr}
 use Rattle.std.specs.Prelude.{All, ◌⊎◌}
 use Rattle.std.proofs.lemmas.Bool.{false≢true}
@@ -34,7 +34,7 @@ none_before : (count : ℕ → Instruction → ℕ) (code : List Instruction) �
 none_before count [] = refl
 none_before count (i ∷ code) = refl
 
--- The numbers in the instructions of a plain program fit machine words.
+-- The numbers in the instructions of a plain program (a program in three-address code) fit machine words.
 pub function_words : (program : Program) (number : ℕ) → IsPlain program → number < length program.functions → All HasWord (routine_at program number).code
 function_words program number plain is_function = plain.words.functions number no_routine is_function
 
@@ -90,7 +90,8 @@ module _ (program : Program) (number : ℕ) (chosen : List ℕ) (front_at : ℕ 
     pinned = pinned program number chosen front_at places rests s origins is;
   }
 
-  -- A function's own code, placed before parts of its callees, does not run off its end, since the last instruction's replacement ends it.
+  -- A function's own code, after which instructions of inlined callees follow, does not run off its end, since control never falls through
+  -- its last instruction.
   front_ends : EndsWell front
   front_ends k i at last =
       let some = has_code program r routine in
@@ -108,7 +109,7 @@ module _ (program : Program) (number : ℕ) (chosen : List ℕ) (front_at : ℕ 
       let is_it : moved 0 place j ≡ i = (let e : Some (moved 0 place j) ≡ Some i = sym here ∙ ap (slice_get s.code) same ∙ at_code in cc) in
       sym (ap leaves is_it) ∙ same_leaving 0 place j ∙ leaving
 
-  -- The part of each inlined call that is placed after the caller's code does not run off its end.
+  -- Control does not run off the end of those instructions of an inlined callee that are placed after the caller's code.
   rest_part_ends : (k : ℕ) (i : Instruction) (call : Option Call) → At r.code k i → chosen_call i (place_in chosen k) ≡ call
       → EndsWell (part program number place rest false k i call (front_at k i))
   rest_part_ends k i (Some call) at chosen_is =
@@ -138,7 +139,7 @@ module _ (program : Program) (number : ℕ) (chosen : List ℕ) (front_at : ℕ 
     last = last_leaves s.code (let below = placed program number chosen front_at places rests s origins is 0 (has_code program r routine) in omega (arith, below)) code_ends;
   }
 
-  -- A function made of the emitted parts correctly replaces the source function.
+  -- A function made of the emitted code and tables of code positions correctly replaces the source function.
   pub is_made : IsMade program number s origins
   is_made = record {
     opened = opened;

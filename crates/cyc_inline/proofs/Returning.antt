@@ -81,7 +81,7 @@ module _ (program inlined : Program) (origins : List (List Origin)) (are : AreOp
         All_at (IsInRange program (routine_at program f.caller.function)) (routine_at program f.caller.function).code lodged.index (instructions.Call c.active.function lodged.arguments lodged.count f.result) r.instructions lodged.calls in
         range.result_in_range
 
-    -- The source configuration after the return, in which the caller continues.
+    -- The configuration of the source program after the call's return, in which the caller continues.
     abbrev e : Configuration
     e = record c { active = record f.caller { slots = copied c.active.slots value results f.caller.slots f.result }; frames = lodged.rest }
 
@@ -90,7 +90,7 @@ module _ (program inlined : Program) (origins : List (List Origin)) (are : AreOp
         step_so program pages calls c i (Running e) at free (does ∙ ap (returns c value results) lodged.frames)
         (fewer_within pages calls c e refl (let long = ap length lodged.frames in omega (arith, long)) matches.within)
 
-    -- The activation of the inlined program after the results are moved.
+    -- The caller's activation in the inlined program after the results of the inlined call are moved to the caller's slots.
     abbrev passer : ℕ → Activation
     passer to = record b { slots = passed f.result (shift + value) results b.slots; next = to }
 

@@ -14,7 +14,8 @@ use Rattle.cyc_inline.specs.declared.origin.Origin.{Origin}
 use Rattle.cyc_inline.specs.inside.Opened.{IsOpened, AreOpened, origins_of}
 use Rattle.cyc_inline.proofs.Agreeing.{Agree, put_agree, intact_agree}
 
--- The inlined code satisfies `IsOpened` for every function index, even for an index at which the program has no function.
+-- The code after inlining satisfies `IsOpened` (a function with some of its calls inlined) for every function index, even
+-- for an index at which the program has no function.
 nothing_opened : (program : Program) (function : ℕ) (origins : List Origin) → length origins ≡ 0 → IsOpened program function no_routine no_routine origins
 nothing_opened program function origins none = record {
   like = record { name = refl; parameters = refl; results = refl; slots = omega arith; frame = inl refl };
@@ -25,7 +26,7 @@ nothing_opened program function origins none = record {
   pinned = λ p i at slot pins. cc;
 }
 
--- An exception handler whose target is moved to the target's position in the inlined program.
+-- An exception handler whose jump target is moved to the position that the target's instruction has in the inlined program.
 abbrev pub moved_handler : (place : ℕ → ℕ) → Handler → Handler
 moved_handler place (Open index first contents) = Open (place index) first contents
 moved_handler place Caught = Caught

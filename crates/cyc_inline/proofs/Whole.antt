@@ -1,4 +1,5 @@
--- If each function of a program is made from a function of a plain program, the program is plain and behaves as that plain program.
+-- If each function of a new program is made from a function of a plain program (in three-address code), then the new program is
+-- plain too, and behaves as the given one.
 use Rattle.std.proofs.Common.{◌≡◌, ℕ, ◌<◌, ◌≤◌, List, length, Some, slice_get, refl, sym, subst, ◌∙◌, arith}
 use Rattle.std.specs.Prelude.{All, sum_by}
 use Rattle.std.proofs.lemmas.Option.{get_or_from_slice_get}
@@ -31,7 +32,8 @@ module _ (program : Program) (routines : List Routine) (origins : List (List Ori
   like : (k : ℕ) → k < length program.functions → IsLike (routine_at program k) (routine_at inlined k)
   like k below = (made.each k below).opened.like
 
-  -- Everything that an instruction names and that exists in the source program also exists in the new program.
+  -- If the slots, globals, functions and jump targets that an instruction names exist in the source program,
+  -- then they also exist in the new program.
   in_range : (s : Routine) (i : Instruction) → IsInRange program s i → IsInRange inlined s i
   in_range s (instructions.Call function arguments count result) range =
       let same = like function range.function_in_range in
@@ -53,7 +55,7 @@ module _ (program : Program) (routines : List Routine) (origins : List (List Ori
     last = is.last;
   }
 
-  -- Each function of the new program is made from the given program's function with the same index.
+  -- Each function of the new program is made from that function of the source program that has the same index.
   each_made : (k : ℕ) (s : Routine) → slice_get routines k ≡ Some s → IsRoutine program s × All HasWord s.code
   each_made k s at =
       let is : IsMade program k (routine_at inlined k) _ = made.each k (let below = below_from_slice_get routines k s at in let many = made.as_many in omega (arith, below, many)) in

@@ -1,4 +1,4 @@
--- the results that the contract of `inline` uses
+-- the properties of the inlined program that the contract of `inline` states
 pub mod Inlined
 -- the contracts of functions inside the crate
 pub mod Opened

@@ -29,20 +29,20 @@ pub(crate) struct Caller<'a> {
     pub(crate) choice: &'a Choice,
     /// The code position of each instruction's replacement, and the position after the last.
     pub(crate) places: &'a [usize],
-    /// For each instruction, the code position of the part of its replacement placed after the caller's code, and
-    /// the position after the last part.
+    /// For each instruction, the code position of those instructions of its replacement that are placed after the
+    /// caller's code, and then the position after the last of them.
     pub(crate) rests: &'a [usize],
 }
 
-/// A table of code positions, and the next free position.
+/// A table that gives the code position of each instruction's replacement, and the first code position after them.
 #[derive(Drop)]
 pub(crate) struct Places {
     pub(crate) places: Vec<usize>,
     pub(crate) end: usize,
 }
 
-/// Returns the number of instructions in an instruction's replacement: in the part placed in line, or in the
-/// part placed after the caller's code.
+/// Returns the number of instructions in an instruction's replacement: of those placed where the instruction
+/// was, or of those placed after the caller's code.
 fn part_count(plain: &Plain, in_line: bool, call: Option<Call>, front: usize) -> usize
     requires plain { IsPlain plain.now }
     requires call { IfSome call (λ it. IsSmallCall plain.now it) }
@@ -132,7 +132,7 @@ impl Emission {
         self.push_all_hoisted(globals, given_slots, slots, wanted, origin)
     }
 
-    /// Appends the hoisted instructions that the choice's table requests before an instruction.
+    /// Appends the hoisted instructions that the search for loop invariants requested before an instruction.
     fn push_wanted(
         &mut self,
         plain: &Plain,

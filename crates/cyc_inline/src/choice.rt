@@ -17,12 +17,12 @@ use crate::tables::place_in;
 use cyc_plain::{Function, Instruction, LAYOUT_WORDS, MOST_FRAME_WORDS, Plain};
 use std::alloc::{AllocError, Global};
 
-/// The resources that the caller needs to inline a call.
+/// The slots and the instructions that the caller needs to inline a call.
 #[derive(Clone, Copy)]
 pub(crate) struct Need {
     /// The number of slots that the caller has after the call is inlined.
     pub(crate) slots: usize,
-    /// The number of instructions that replace the call.
+    /// The number of instructions that replace the inlined call.
     pub(crate) size: usize,
     /// The number of the callee's instructions that are placed at the call.
     pub(crate) line: usize,
@@ -66,7 +66,8 @@ fn line_of(leafs: &[usize], instruction: Instruction) -> usize
     }
 }
 
-/// Returns what a function needs to inline one of its instructions, if the instruction is a call that may be inlined.
+/// Returns the numbers of slots and instructions that a function needs to inline one of its calls, if the instruction
+/// is a call that may be inlined.
 fn need_of(plain: &Plain, leafs: &[usize], number: usize, instruction: Instruction) -> Option<Need>
     requires plain { IsPlain plain.now }
     requires leafs { AreLeafs plain.now leafs.now }
@@ -94,7 +95,8 @@ fn need_of(plain: &Plain, leafs: &[usize], number: usize, instruction: Instructi
 }
 
 impl Choice {
-    /// Returns the empty choice, for a function with `slots` slots.
+    /// Returns an empty record of decisions, for a function with `slots` slots: no call is inlined, and no instruction is duplicated or
+    /// hoisted.
     fn new(alloc: Global, slots: usize) -> Choice
         ensures chosen { result.chosen.items ≡ [] }
         ensures slots { result.slots ≡ slots }
@@ -109,7 +111,8 @@ impl Choice {
         }
     }
 
-    /// Adds one instruction to the choice. A call that may be inlined is chosen if the function does not grow too much.
+    /// Records whether the next instruction of a function is a call to be inlined. A call that may be inlined is chosen
+    /// if the function does not grow too much.
     fn add(&mut self, need: Option<Need>) -> Result<(), AllocError>
         requires { self.now.growth ≤ limits.MOST_GROWTH }
         ensures { OnOk result (IsChosenBy self.old self.new need) }
@@ -226,7 +229,8 @@ pub(crate) fn choose(
     Ok(choice)
 }
 
-/// Chooses duplicates and hoisted instructions, but no call to inline, if the frame stays small with the extra slots.
+/// Chooses instructions to duplicate and to hoist, but no call to inline; it chooses none if the extra slots would
+/// make the frame too large.
 pub(crate) fn choose_duplicates(
     alloc: Global,
     plain: &Plain,

@@ -1,4 +1,4 @@
-//! Gives some expressions of a plain program slots of their own, so that their values need not be recomputed.
+//! Gives repeated expressions of a plain program (in three-address code) slots of their own, so that their values need not be recomputed.
 ghost use Rattle.std.specs.Prelude.{◌≤◌, IfOk, max, sum_by};
 ghost use Rattle.cyc_plain.specs.inside.Program.{size};
 ghost use Rattle.cyc_inline.specs.inside.Changes.{AreReported, notes_of};

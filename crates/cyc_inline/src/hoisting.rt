@@ -7,8 +7,8 @@ use crate::shapes::{COMPARED, LOAD_GLOBAL, Value};
 use cyc_plain::{Instruction, Operand};
 use std::alloc::{AllocError, Global};
 
-/// A candidate for hoisting: the index of its expression, the instruction that computes it, and the instruction before which it
-/// would be hoisted, if any.
+/// An expression considered for hoisting: the index of the expression, the instruction that computes it, and the instruction
+/// before which it would be hoisted, if any.
 #[derive(Clone, Copy)]
 pub(crate) struct Candidate {
     pub(crate) number: usize,
@@ -16,8 +16,8 @@ pub(crate) struct Candidate {
     pub(crate) front: Option<usize>,
 }
 
-/// Returns the index of the instruction before which a loop's expressions are hoisted: the last one before the loop header, or the one
-/// before that if the last one jumps.
+/// Returns the index of the instruction before which a loop's invariant expressions are hoisted: the last one before the loop header,
+/// or the one before that if the last one jumps.
 fn front_of(code: &[Instruction], head: usize) -> Option<usize> {
     let last = head.checked_sub(1)?;
     if may_follow_hoisted(*code.get(last)?) {
@@ -30,7 +30,8 @@ fn front_of(code: &[Instruction], head: usize) -> Option<usize> {
     }
 }
 
-/// The candidates for hoisting, from `first` up to `end`, that remain candidates for the enclosing loop.
+/// The range of list indices, from `first` up to `end`, of those expressions that are invariant in the
+/// loop that ends and may also be hoisted out of the enclosing loop.
 #[derive(Clone, Copy)]
 struct Kept {
     first: usize,
@@ -38,7 +39,7 @@ struct Kept {
 }
 
 impl Search {
-    /// Returns true if one of the candidates that remain candidates for the enclosing loop computes the expression with the given index.
+    /// Returns true if the expression with the given index is among those that may also be hoisted out of the enclosing loop.
     fn is_kept(&self, number: usize, kept: Kept) -> bool {
         for at in kept.first..kept.end {
             if let Some(candidate) = self.candidates.get(at) {
@@ -75,7 +76,7 @@ impl Search {
         }
     }
 
-    /// Decides if a candidate is hoisted. If the candidate is invariant in some loop, it is hoisted before that loop.
+    /// Decides if an expression is hoisted. If the expression is invariant in some loop, it is hoisted before that loop.
     fn settle(&mut self, candidate: Candidate) -> Result<(), AllocError> {
         if candidate.front.is_some() {
             self.need(candidate.number);
@@ -84,7 +85,8 @@ impl Search {
         Ok(())
     }
 
-    /// Ends the loops whose last backward jump is the given instruction.
+    /// Handles the end of a loop, if the given backward jump is the last one of the loop: decides which expressions are hoisted before the
+    /// loop.
     pub(crate) fn close(
         &mut self,
         code: &[Instruction],
@@ -98,7 +100,8 @@ impl Search {
         }
     }
 
-    /// Ends a loop: moves the candidates that stay invariant in it to the front of the list and removes the others.
+    /// Decides on hoisting at the end of a loop: keeps the expressions that are invariant in the loop for the
+    /// enclosing loop, and removes the others from the list.
     fn close_loop(&mut self, code: &[Instruction], head: usize) -> Result<(), AllocError> {
         let front = front_of(code, head);
         let first = self.first_from(head);
@@ -117,7 +120,8 @@ impl Search {
         Ok(())
     }
 
-    /// Returns a loop's candidate as a candidate of the enclosing loop, hoisted before the inner loop, if hoisting is allowed there.
+    /// Returns an expression that is invariant in a loop as one to be hoisted before this loop, and as a possible invariant of the
+    /// enclosing loop, if hoisting is allowed there.
     fn held_on(
         &mut self,
         candidate: Candidate,
@@ -147,7 +151,7 @@ impl Search {
         Ok(Some(candidate))
     }
 
-    /// Returns the list index of the first candidate whose instruction is at or after `head`.
+    /// Returns the list index of the first expression considered for hoisting whose instruction is at or after `head`.
     fn first_from(&self, head: usize) -> usize {
         let count = self.candidates.len();
         for at in (0..count).rev() {
@@ -160,7 +164,7 @@ impl Search {
         0
     }
 
-    /// Decides about every expression that is still a candidate after the last loop.
+    /// Decides, after the last loop, about hoisting each expression that is still in the list of possible loop invariants.
     pub(crate) fn settle_all(&mut self) -> Result<(), AllocError> {
         for at in 0..self.candidates.len() {
             if let Some(candidate) = self.candidates.get(at) {
@@ -172,7 +176,7 @@ impl Search {
         Ok(())
     }
 
-    /// Returns the operand that holds a value.
+    /// Returns the operand (a constant word or a slot) that denotes a value of a hoisted expression.
     fn operand_of(&self, value: Value) -> Option<Operand> {
         match value {
             Value::Word { word } => Some(Operand::Word { word }),

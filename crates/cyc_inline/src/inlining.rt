@@ -24,7 +24,7 @@ pub struct Inlined {
     pub opened: Vec<Option<Opened>>,
 }
 
-/// The kind of change made to the functions of a program.
+/// The change made to the functions of a program: inlining of calls, or duplication of instructions.
 #[derive(Clone, Copy)]
 pub(crate) enum Work<'a> {
     /// Calls of leaf functions are inlined. `leafs` gives, for each function, the number of its instructions placed at an
@@ -43,7 +43,8 @@ fn has_any(leafs: &[usize]) -> bool {
     false
 }
 
-/// Returns the index of the first function that may change, or the number of functions if none may.
+/// Returns the index of the first function whose code may be changed by inlining or duplication, or
+/// the number of functions if there is none.
 fn first_of(search: &mut Search, plain: &Plain, work: Work) -> Result<usize, AllocError> {
     match work {
         Work::Calls { leafs } => {
@@ -57,7 +58,7 @@ fn first_of(search: &mut Search, plain: &Plain, work: Work) -> Result<usize, All
     }
 }
 
-/// Returns the number of words by which a program may grow, if the functions from `first` on may change.
+/// Returns the number of words of machine code by which a program may grow, if the functions from `first` on may be replaced.
 fn spare_for(plain: &Plain, first: usize, room: usize) -> usize
     ensures { (result ≡ 0) ⊎ ((sum_by size plain.now.functions + result ≤ room) × (sum_by size plain.now.functions + result ≤ limits.MOST_SIZE)) }
 {
@@ -68,7 +69,7 @@ fn spare_for(plain: &Plain, first: usize, room: usize) -> usize
     }
 }
 
-/// Returns the number of words by which the functions after a changed function may grow.
+/// Returns the number of words of machine code by which the functions after a replaced function may together grow.
 fn left_of(change: &Option<Made>, spare: usize) -> usize
     ensures { result ≡ left_of change.now spare }
 {
@@ -78,8 +79,8 @@ fn left_of(change: &Option<Made>, spare: usize) -> usize
     }
 }
 
-/// Returns the replacement of the function with index `number`, if there is one. Functions before the first changed function
-/// have no replacement.
+/// Returns the replacement of the function with index `number`, if there is one. Functions before the first function to be
+/// changed have no replacement.
 fn change_of(
     alloc: Global,
     search: &mut Search,
@@ -127,7 +128,7 @@ fn changes_of(
     Ok(changes)
 }
 
-/// Returns the program after the requested change to its functions.
+/// Returns the program in which calls are inlined or instructions are duplicated, as requested.
 pub(crate) fn remake(
     alloc: Global,
     plain: Plain,

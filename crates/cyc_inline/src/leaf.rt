@@ -55,7 +55,7 @@ fn is_leaving(instruction: Instruction) -> bool
     }
 }
 
-/// Returns true if a function returns at an instruction.
+/// Returns true if executing the instruction returns from its function.
 pub(crate) fn returns(instruction: Instruction) -> bool
     ensures { result ≡ returns instruction }
 {

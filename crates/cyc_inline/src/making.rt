@@ -16,14 +16,14 @@ use crate::tables::place_in;
 use cyc_plain::{Function, Instruction, LAYOUT_WORDS, MOST_SIZE, Plain};
 use std::alloc::{AllocError, Global};
 
-/// A replacement of a function: the new function, the origins of its instructions, and the number of
-/// words by which later functions may grow.
+/// A replacement of a function: the new function, the source instructions from which its instructions are made, and the number of words of
+/// machine code by which later functions may grow.
 #[derive(Drop)]
 pub(crate) struct Made {
     pub(crate) function: Function,
     /// For each instruction of the replacement, the source instruction from which it is made.
     pub(crate) origins: Vec<Origin>,
-    /// The number of words by which the functions after the replaced function may grow.
+    /// The number of words of machine code by which the functions after the replaced function may together grow.
     pub(crate) spare: usize,
 }
 
@@ -68,7 +68,8 @@ fn opened(
     })
 }
 
-/// Returns the number of words by which later functions may grow, or `None` if the replacement `made` grows too much.
+/// Returns the number of words of machine code by which later functions may together grow, or `None` if the
+/// replacement `made` grows too much.
 fn spare_after(given: &Function, made: &Function, spare: usize) -> Option<usize>
     ensures { IfSome result (λ left. size (routine_of made.now) + left ≤ size (routine_of given.now) + spare) }
 {

@@ -32,7 +32,7 @@ pub(crate) struct Expression {
     pub(crate) slot: usize,
 }
 
-/// The facts known about a slot.
+/// The facts known at the current instruction about a slot: when it was last written, and its value.
 #[derive(Clone, Copy)]
 struct Held {
     /// The time (instruction index plus 1) of the last write to the slot, and the value that the slot has had since then.
@@ -42,14 +42,14 @@ struct Held {
     is_pinned: bool,
 }
 
-/// The facts about a slot that was never written.
+/// The facts about a slot that no instruction has written yet.
 const UNWRITTEN: Held = Held {
     written: 0,
     value: Value::Word { word: 0 },
     is_pinned: false,
 };
 
-/// The facts known about an instruction.
+/// The facts known about an instruction: the last jump back to it, and the expression that it computes.
 #[derive(Clone, Copy)]
 pub(crate) struct Place {
     /// One more than the index of the last instruction that jumps back to this instruction, or 0 if none does.
@@ -74,17 +74,18 @@ pub(crate) struct Search {
     held: Vec<Held>,
     pub(crate) places: Vec<Place>,
     pub(crate) expressions: Vec<Expression>,
-    /// The candidates for hoisting out of loops that have not ended yet, and the hoisted expressions.
+    /// The expressions considered for hoisting out of loops that have not ended yet, and the expressions chosen to be hoisted.
     pub(crate) candidates: Vec<Candidate>,
     pub(crate) all_hoisted: Vec<Candidate>,
-    /// The time (instruction index plus 1) of the last change of memory, and the time since which the known values are valid.
+    /// The time (instruction index plus 1) of the last change of memory, and the time since which the recorded values of slots are valid.
     pub(crate) stored: usize,
     begun: usize,
     /// The last instruction at which an expression is worth a slot: the last instruction of the loops so far, or of a small function.
     worth: usize,
     /// One more than the index of the last instruction of the loops found so far, or 0.
     looped: usize,
-    /// The first instruction after which no expression can turn out to need an extra slot; it follows every loop and any small function.
+    /// The index of the first instruction from which on no expression can turn out to need an extra slot; it follows every loop and any
+    /// small function.
     pub(crate) decided: usize,
     /// True if some expression needs an extra slot.
     pub(crate) has_needed: bool,
@@ -116,7 +117,7 @@ impl Search {
 
     // ---- the tables of a function
 
-    /// Resets the tables of facts for another function.
+    /// Resets the tables of facts about slots, instructions and expressions, before another function is examined.
     pub(crate) fn begin(&mut self, function: &Function) -> Result<(), AllocError> {
         self.held.clear();
         self.held.resize(function.slots, UNWRITTEN)?;
@@ -209,7 +210,7 @@ impl Search {
         }
     }
 
-    /// Returns the value of a slot: the value written last, if it is still valid, else the slot itself.
+    /// Returns the value of a slot: the value written last, if it is still valid, or else the slot itself as an unknown value.
     fn value_by(&self, held: &Held, slot: usize) -> Value {
         if held.written >= self.begun && self.changed(held.value) <= held.written {
             held.value
@@ -289,7 +290,8 @@ impl Search {
 
     // ---- computed expressions
 
-    /// Returns one more than the index of the first known expression in a hash bucket with the given shape (operation and operands), or 0.
+    /// Returns one more than the index of the first recorded expression in a hash bucket with the given shape (operation and operands), or
+    /// 0 if there is none.
     fn find(&self, shape: Shape, newest: usize) -> usize {
         let mut at = newest;
         for _ in 0..MOST_COMPARED {
@@ -311,7 +313,7 @@ impl Search {
         0
     }
 
-    /// Records that a known expression is computed again into a slot.
+    /// Records that an expression that was computed before is computed again into a slot.
     fn see_again(&mut self, number: usize, made: usize, slot: usize, time: usize) {
         let written = match self.expressions.get(number) {
             Some(expression) => self.written(expression.holder),
@@ -363,8 +365,8 @@ impl Search {
         Ok(at)
     }
 
-    /// Records that an instruction computes or loads an expression into a slot. Within a loop the expression becomes a candidate for
-    /// hoisting.
+    /// Records that an instruction computes or loads an expression into a slot. Within a loop the expression is added to those
+    /// considered for hoisting.
     fn compute(&mut self, shape: Shape, index: usize, slot: usize) -> Result<(), AllocError> {
         let time = index.wrapping_add(1);
         if self.is_pinned(slot) {
@@ -424,7 +426,7 @@ impl Search {
         }
     }
 
-    /// Records that the slots that an instruction writes have unknown values.
+    /// Records that the values of the slots that an instruction writes are unknown from now on.
     fn renew(&mut self, slots: Slots, time: usize) {
         for word in 0..slots.count {
             let slot = slots.first.wrapping_add(word);
@@ -462,7 +464,7 @@ impl Search {
         self.compute(shape, index, destination)
     }
 
-    /// Updates the facts before an instruction: if a loop begins there, no known value stays valid.
+    /// Updates the facts before an instruction: if a loop begins there, the recorded values of all slots become invalid.
     fn come_to(&mut self, index: usize) {
         let end = self.end_of(index);
         if end > 0 {
@@ -472,7 +474,7 @@ impl Search {
         }
     }
 
-    /// Updates the facts by the effect of one instruction.
+    /// Updates the facts about slots, expressions and memory by the effect of one instruction.
     pub(crate) fn look(
         &mut self,
         plain: &Plain,

@@ -1,4 +1,4 @@
-//! Decides which functions need extra slots for expressions, and assigns these slots.
+//! Decides which functions need extra slots for the values of expressions, and assigns these slots to the expressions.
 use crate::naming::{Search, is_small};
 use cyc_plain::{Function, Instruction, LAYOUT_WORDS, MOST_FRAME_WORDS, Plain};
 use std::alloc::{AllocError, Global};

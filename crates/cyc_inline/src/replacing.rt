@@ -1,4 +1,4 @@
-//! Replaces some functions of a program.
+//! Replaces those functions of a program for which a replacement is given.
 ghost use Rattle.std.specs.Prelude.{◌≡◌, IfOk, length};
 ghost use Rattle.std.specs.Vec.Iter.{into_iter_items, into_iter_len};
 ghost use Rattle.cyc_inline.specs.inside.Changes.{first_of, function_of, note_of, noted, others, replaced};

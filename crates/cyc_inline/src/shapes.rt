@@ -10,7 +10,7 @@ pub(crate) const LOAD: usize = 16;
 /// The number that identifies a load of a global among the kinds of expressions.
 pub(crate) const LOAD_GLOBAL: usize = 17;
 
-/// The known value of an operand: a word, a slot, or an expression.
+/// The value that an operand is known to have: a constant word, the unknown word in a slot, or the result of an expression.
 #[derive(Clone, Copy)]
 pub(crate) enum Value {
     Word { word: u32 },
@@ -18,7 +18,7 @@ pub(crate) enum Value {
     Expression { number: usize },
 }
 
-/// The operation and the operands of an instruction, as known values.
+/// The operation of an instruction and the values that its operands are known to have.
 #[derive(Clone, Copy)]
 pub(crate) struct Shape {
     pub(crate) kind: usize,
@@ -43,12 +43,12 @@ fn is_same(one: Value, other: Value) -> bool {
     }
 }
 
-/// Returns true if two instructions with these shapes compute the same value.
+/// Returns true if two instructions with these operations and operand values compute the same value.
 pub(crate) fn is_same_shape(one: Shape, other: Shape) -> bool {
     one.kind == other.kind && is_same(one.left, other.left) && is_same(one.right, other.right)
 }
 
-/// Returns true if a value is the word in the given slot.
+/// Returns true if a value is the unknown word in the given slot.
 pub(crate) fn is_slot(value: Value, slot: usize) -> bool {
     match value {
         Value::Slot { number } => number == slot,

@@ -29,7 +29,7 @@ pub(crate) struct Call {
     pub(crate) line: usize,
 }
 
-/// An inlined call with the data needed to emit its code.
+/// An inlined call, with the slots and code positions that are needed to emit its code.
 #[derive(Clone, Copy)]
 pub(crate) struct Site {
     pub(crate) call: Call,
@@ -39,7 +39,7 @@ pub(crate) struct Site {
     pub(crate) results: usize,
     /// The code position at which the caller continues after the call.
     pub(crate) following: usize,
-    /// The code position of the part of the callee's code that is placed after the caller's code.
+    /// The code position of those instructions of the callee that are placed after the caller's code.
     pub(crate) rest: usize,
 }
 
@@ -70,7 +70,7 @@ pub(crate) fn chosen_call(instruction: Instruction, line: usize) -> Option<Call>
     }
 }
 
-/// Returns true if an instruction of the callee belongs to the requested part: the one at the call, or the one after the caller's code.
+/// Returns true if an instruction of the callee is placed at the call or, if the other case is requested, after the caller's code.
 fn stands_in(in_line: bool, line: usize, index: usize) -> bool
     ensures { result ≡ sites.stands_in in_line line index }
 {
@@ -128,7 +128,7 @@ fn count_in(
     }
 }
 
-/// Returns the number of instructions that replace the callee's code at the call, or in the part placed after the caller's code.
+/// Returns the number of instructions that replace the callee's code: at the call, or after the caller's code.
 pub(crate) fn inside_size(results: usize, line: usize, in_line: bool, code: &[Instruction]) -> usize
     requires results { results ≤ GREATEST_VALUE }
     requires few { length code.now ≤ MOST_LEAF_CODE }
@@ -142,8 +142,8 @@ pub(crate) fn inside_size(results: usize, line: usize, in_line: bool, code: &[In
     size
 }
 
-/// Returns the next code position for a callee's instruction: `here` if it belongs at the call, `there` if it belongs after the
-/// caller's code.
+/// Returns the next code position for a callee's instruction: `here` if it is placed at the call, `there` if it is placed after
+/// the caller's code.
 fn next_place(line: usize, index: usize, here: usize, there: usize) -> usize
     ensures { result ≡ (if nat_lt index line then here else there) }
 {
@@ -210,8 +210,8 @@ impl Emission {
         }
     }
 
-    /// Appends the replacement of a callee's instruction if it belongs to the requested part: placed at the call, or
-    /// after the caller's code.
+    /// Appends the replacement of a callee's instruction, if the instruction is placed where code is being emitted:
+    /// at the call, or after the caller's code.
     fn push_inside_in(
         &mut self,
         site: &Site,
@@ -236,7 +236,7 @@ impl Emission {
         }
     }
 
-    /// Appends the replacement of the callee's code: the part placed at the call, or the part placed after the caller's code.
+    /// Appends the replacement of the callee's code: of the instructions placed at the call, or of those placed after the caller's code.
     fn push_body(
         &mut self,
         site: &Site,

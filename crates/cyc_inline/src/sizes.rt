@@ -29,7 +29,7 @@ fn request_size(request: Request) -> usize
     }
 }
 
-/// Returns the size of an instruction in words, or `None` for an instruction that no program contains.
+/// Returns the size of an instruction in words of machine code, or `None` for an instruction that occurs in no well-formed program.
 fn instruction_size(instruction: Instruction) -> Option<usize>
     ensures { IfSome result (λ it. it ≡ instruction_size instruction) }
 {
@@ -100,7 +100,7 @@ fn program_size(plain: &Plain, most: usize) -> Option<usize>
     Some(size)
 }
 
-/// Returns the number of words by which a program may grow if its size limit is `room` words.
+/// Returns the number of words of machine code by which a program may grow if its size limit is `room` words.
 pub(crate) fn spare_of(plain: &Plain, room: usize) -> usize
     ensures { (result ≡ 0) ⊎ ((sum_by size plain.now.functions + result ≤ room) × (sum_by size plain.now.functions + result ≤ limits.MOST_SIZE)) }
 {

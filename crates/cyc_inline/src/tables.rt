@@ -1,4 +1,4 @@
-//! Tables that are indexed by functions or by code positions.
+//! Tables of numbers that have one entry for each function or for each instruction.
 ghost use Rattle.std.specs.Prelude.{◌≡◌};
 ghost use Rattle.cyc_inline.specs.inside.Sites as sites;
 

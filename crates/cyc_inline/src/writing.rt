@@ -12,7 +12,7 @@ pub(crate) fn slots_from(first: usize, count: usize) -> Slots {
     Slots { first, count }
 }
 
-/// Returns the slots that receive the result of a heap request.
+/// Returns the slots that receive the result of a heap request, such as an allocation.
 fn answered(request: Request) -> Slots {
     match request {
         Request::OpenLexical { destination } => slots_from(destination, 2),

@@ -1,4 +1,4 @@
--- Lemmas: the machine's operations on words give words again, and branch targets are sums of whole numbers.
+-- Lemmas: the machine's operations on words give words again, and branch and jump targets are those computed with integers, modulo 2^32.
 use Rattle.std.proofs.Common.{◌≡◌, ℕ, ◌*◌, ◌/◌, ◌%◌, ◌^◌, ◌<◌, ℤ, pos, negsuc, ◌+ℤ◌, ◌*ℤ◌, FitsSigned, suc, subst, sym, arith}
 use Rattle.std.specs.Int.{w32, w64, cast_unsigned}
 use Rattle.std.proofs.lemmas.Nat.{mul-le}

@@ -16,7 +16,7 @@ use Rattle.cyc_lex.specs.inside.Found.{IsFound}
 use Rattle.cyc_lex.specs.Refusals.{Begins, FailsHere, Holds, IsFirstFault, IsRefused, IsAccepted}
 use Rattle.cyc_lex.proofs.LexLemmas.{IsReadUpTo}
 
--- At most one piece (token, space or comment) is read at the start of a text.
+-- At the start of a text the lexer can read at most one piece (token, space or comment): the piece is unique.
 one_begins : (m n : Piece) (text : List ℕ) → Begins m text → Begins n text → m ≡ n
 one_begins m n text begins also =
     ap (λ (p : Part). p.piece)
@@ -32,14 +32,15 @@ begins_nothing m begins = by begins.0 begins.2 begins.3.spelled
     by [] e spelled = piece_nonempty m spelled
     by (b ∷ bs) e spelled = cc
 
--- A fault code that holds for the rest of a text holds there with any number of tokens before it.
+-- If a fault code describes the rest of a text, independently of a token count, then it also holds
+-- there with any number of tokens before it.
 holds_here : (code : Code) (count : ℕ) (text : List ℕ) → FailsHere code text → Holds code count text
 holds_here codes.UnknownByte count text fails = fails
 holds_here codes.UnclosedComment count text fails = fails
 holds_here codes.NumberTooLarge count text fails = fails
 holds_here _ count text fails = absurd fails
 
--- These lemmas are about the lowest fault code that holds at a position of the text.
+-- These lemmas state that a fault code has the lowest number among the codes that hold at a position of the text.
 
 least_unknown : (other : Code) (count : ℕ) (text : List ℕ) → Holds other count text → 1 ≤ number_of other
 least_unknown codes.UnknownByte count text h = omega arith
@@ -62,7 +63,7 @@ least_large codes.NumberTooLarge count text k begins h = omega arith
 least_large codes.TooManyTokens count text k begins h = omega arith
 least_large _ count text k begins h = absurd h
 
--- If a token is within the limits, then no number above the limit begins at its position.
+-- If a token is within the limits of the lexer, then no number above the greatest allowed number begins at its position.
 not_large : (text : List ℕ) (k : Kind) → Begins (Lexeme k) text → IsSmall k → FailsHere codes.NumberTooLarge text → ⊥
 not_large text k begins small large =
     let e = one_begins (Lexeme k) (Lexeme (Number large.0)) text begins large.1 in
@@ -134,7 +135,7 @@ code_is codes.NumberTooLarge count text h = refl
 code_is codes.TooManyTokens count text h = refl
 code_is _ count text h = absurd h
 
--- A token among tokens within the limits is within the limits, and fewer tokens than the limit come before it.
+-- If all tokens of a list are within the limits of the lexer, then so is each of them, and fewer tokens than the maximum come before it.
 middle : (front more : List Token) (t : Token) → IsWithinLimits (front ++ t ∷ more) → IsSmall t.kind × (length front < max_tokens)
 middle front more t within =
     let count = within.count in
@@ -143,7 +144,7 @@ middle front more t within =
       omega (arith, count, size),
     )
 
--- At a position with a fault, no token, space or comment can be read within the limits.
+-- At a position of the text where a fault code holds, no token, space or comment can be read within the limits of the lexer.
 no_way_on : (code : Code) (front : List Token) (p : Part) (text after : List ℕ) (bytes : List ℕ) (more : List Token) → Holds code (length front) text
     → text ≡ p.bytes ++ after → IsRead p.piece p.bytes after → p.piece ≢ OpenComment → IsWithinLimits (front ++ (part_tokens bytes p.piece ++ more)) → ⊥
 no_way_on codes.UnknownByte front p text after bytes more h whole read closed within = begins_piece p.piece text (p.bytes, after, whole, read) h
@@ -173,7 +174,8 @@ holds_nothing codes.NumberTooLarge count h = begins_nothing (Lexeme (Number h.0)
 holds_nothing codes.TooManyTokens count h = begins_nothing (Lexeme h.0) h.1
 holds_nothing _ count h = h
 
--- If a division of a text into pieces (tokens, spaces, comments) cannot be extended by another division, then the two are equal.
+-- Let one division of a text into pieces (tokens, spaces, comments) continue another one. If it adds no piece, then the two are
+-- equal, and so are the remaining texts.
 end_of : (ps qs more : List Part) (r s : List ℕ) → qs ≡ ps ++ more → IsCut more r s → more ≡ [] → (qs ≡ ps) × (r ≡ s)
 end_of ps qs more r s e cut none = (e ∙ ap (λ l. ps ++ l) none ∙ append-nil ps, subst (λ l. IsCut l r s) none cut)
 

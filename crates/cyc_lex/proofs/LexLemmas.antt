@@ -45,7 +45,7 @@ found_space (b ∷ bs) some space = record {
     starts : start_of b ≡ AtSpace
     starts = cond-false (is_letter b) _ _ no_letter ∙ cond-false (is_digit b) _ _ no_digit ∙ cond-true (is_space b) _ _ space
 
--- Says that the text before `start` has been read as these tokens, and that `place` is the source position of `start`.
+-- Says that the text before the index `start` has been read as these tokens, and that `place` is the source position of `start`.
 pub record IsReadUpTo (text : List ℕ) (tokens : List CodeToken) (start : ℕ) (place : Span) : Type 0 where
   pub parts : List Part
   pub cut : IsCut parts text (drop start text)
@@ -56,7 +56,7 @@ pub record IsReadUpTo (text : List ℕ) (tokens : List CodeToken) (start : ℕ) 
   pub following : IsAfter place (take start text)
   pub inside : start ≤ length text
 
--- the number of tokens read is within the limit
+-- the number of tokens read so far is at most the maximal number of tokens of a text
 pub tokens_within : (text : List ℕ) (tokens : List CodeToken) (start : ℕ) (place : Span) → IsReadUpTo text tokens start place → length tokens ≤ max_tokens
 tokens_within text tokens start place done =
     let count : length tokens ≡ length (tokens_of [] done.parts) = sym (length-map tokens (token_of text)) ∙ ap length done.views in
@@ -66,7 +66,7 @@ tokens_within text tokens start place done =
 tokens_push : (ps : List Part) (p : Part) → tokens_of [] (ps ++ p ∷ []) ≡ tokens_of [] ps ++ part_tokens (bytes_of ps) p.piece
 tokens_push ps p = tokens_of-append [] ps (p ∷ []) ∙ ap (λ l. tokens_of [] ps ++ l) (append-nil (part_tokens (bytes_of ps) p.piece))
 
--- The next piece (token, space or comment) of a text; the next definition is the token that the code makes of this piece, if it is a token.
+-- The next piece (token, space or comment) of a text. The token that the code makes of this piece, if it is one, is defined next.
 abbrev part_at : List ℕ → ℕ → ℕ → Piece → Part
 part_at text start len m = record { piece = m; bytes = take len (drop start text) }
 

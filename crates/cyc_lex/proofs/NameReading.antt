@@ -1,4 +1,4 @@
--- This file is about names and region names at the start of a text.
+-- This file has lemmas about the name or region name that the lexer reads at the start of a text.
 use Rattle.std.proofs.Common.{◌≡◌, ◌≢◌, ℕ, ◌+◌, ◌<◌, ◌≤◌, true, Some, List, [], ◌∷◌, ◌++◌, length, get_or, take, drop, refl, sym, ap, ◌∙◌, arith}
 use Rattle.std.specs.List.{list_all, prefix_len}
 use Rattle.std.proofs.lemmas.Bool.{true≢false, cond-true, and_from, and_parts, or_left}

@@ -50,7 +50,8 @@ front_shape m text front rest e spelled = by front (piece_starts m front spelled
     by (b ∷ bs) start shaped e =
         subst (λ s. Shape s (b ∷ bs)) (sym (ap (λ l. start_of (get_or l 0 0)) e ∙ start)) shaped
 
--- If a piece (token, space or comment) has the form of the text's first byte and no longer prefix has, then the lexer reads the piece.
+-- The lexer reads a prefix of a text as a piece (token, space or comment) if it spells the piece and is the longest prefix of the form
+-- for its first byte.
 pub read_at : (m : Piece) (s : Start) (text : List ℕ) (n : ℕ) → start_of (get_or text 0 0) ≡ s → n ≤ length text → Spells m (take n text)
     → ((front rest : List ℕ) → text ≡ front ++ rest → Shape s front → length front ≤ n) → IsRead m (take n text) (drop n text)
 read_at m s text n start within spelled bound = record {

@@ -18,7 +18,7 @@ use Rattle.cyc_lex.specs.inside.Found.{IsFound}
 use Rattle.cyc_lex.specs.Refusals.{FailsHere}
 use Rattle.cyc_lex.proofs.ShapeLemmas.{Shape, read_at}
 
--- The second byte of a comment excludes all other kinds of tokens, spaces and comments.
+-- If the first two bytes of a piece are those of a comment, then the piece is a comment and neither a token nor a space.
 module _ (text front rest body : List ℕ) (b c : ℕ) (whole : text ≡ front ++ rest) (is : front ≡ b ∷ c ∷ body) where
   second_byte : get_or text 1 0 ≡ c
   second_byte = ap (λ l. get_or l 1 0) (whole ∙ ap (λ l. l ++ rest) is)
@@ -133,8 +133,8 @@ open_comment text long first second none = (
 
 -- ---- signs
 
--- Only comments and the token `/` begin with a slash; only a punctuation token begins with the first
--- byte of a punctuation token other than `/`.
+-- A piece that begins with a slash is a comment or the token `/`. A piece that begins with the first
+-- byte of another punctuation token is a punctuation token.
 at_sign : (s : Sign) (rest : List ℕ) → get_or (sign_text s ++ rest) 0 0 ≢ 47 → start_of (get_or (sign_text s ++ rest) 0 0) ≡ AtSign
 at_sign signs.Swap rest other = refl
 at_sign signs.AndAnd rest other = refl

@@ -26,7 +26,7 @@ pub const MAX_TOKENS: usize = 60000;
 pub fn lex(alloc: Global, text: &[u8]) -> Result<Vec<Token>, Fault>
     // For an accepted text the result is its tokens, and for a rejected text its first fault.
     ensures decides { Decides (IsAccepted text.now) (λ tokens v. map (token_of text.now) v.items ≡ tokens) (IsRefused text.now) (IsRefused text.now) result }
-    // Each token records its position and length in the text.
+    // Each token of the result records its source position and its length in the text.
     ensures lie { IfOk result (λ v. AreTokensOf text.now v.items) }
 {
     if text.len() > MAX_BYTES {

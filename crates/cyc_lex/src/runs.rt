@@ -5,7 +5,7 @@ ghost use Rattle.cyc_syntax.specs.Spelling as spec;
 
 use crate::classes::{digit_value, is_hex_digit, is_name_byte};
 
-/// Returns the number of bytes at the start that may belong to one name.
+/// Returns the number of letters, digits and `_` at the start of the bytes.
 pub fn name_len(bytes: &[u8]) -> usize
     ensures len { result ≡ prefix_len spec.is_name_byte bytes.now }
     ensures within { result ≤ length bytes.now }

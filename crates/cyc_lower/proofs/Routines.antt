@@ -31,8 +31,8 @@ pub few_locals : (f : FunctionCode) → frame_count (view_function f) ≤ most_f
 few_locals f small = (omega (arith, small), omega (arith, small, slots-few (view_function f)))
 
 -- The body of a function is emitted with provisional jump targets far after its code, which stand for the blocks that raise
--- exceptions. Once the provisional targets are replaced, the body's jumps go to the exception blocks after the body. A return comes
--- before the exception blocks, and only the blocks up to the last one that is a jump target are kept.
+-- exceptions. Once the provisional targets are replaced, the body's jumps go to the blocks after the body that raise exceptions.
+-- The blocks that raise exceptions come after a return, and only those up to the last one that is a jump target are kept.
 pub function_made : (structs : List StructType) (globals : List ℕ) (scopes : Option ℕ) (h : Function) (locals : List ℕ) (slot free far raises end : ℕ) (count kept : ℕ) (first body ended all code : List Instruction) → locals ≡ starts_from 0 (slot_types h) → slot ≡ tag_slot h → free ≡ first_temporary h
     → first ≡ items_code (record { locals = locals; tag_slot = slot; structs = structs; raises = far; counters = []; globals = globals; scopes = scopes }) h.body 0 outside_loops free → raises ≡ length first
     → AreTurned far raises first body → IsClose structs globals scopes h → raises + 7 ≤ far
@@ -52,7 +52,7 @@ function_made structs globals scopes h locals slot free far raises end count kep
 
 -- ---- lists that are lowered element by element
 
--- Lowering one more element extends the list of lowered elements by one.
+-- Lowering the next element of a list of tree nodes extends the list of the lowered elements by one.
 pub one_more_mapped : {A B C D : Type 0} (f : A → D) (g : C → D) (view : B → C) (made new : List A) (xs : List B) (i : ℕ) (a : A) (x : B) → i < length xs → x ≡ get_or xs i x → new ≡ made ++ a ∷ []
     → f a ≡ g (view x) → map f made ≡ map g (map view (take i xs)) → map f new ≡ map g (map view (take (i + 1) xs))
 one_more_mapped {A} {B} {C} {D} f g view made new xs i a x inside at is one made_is =

@@ -250,8 +250,8 @@ impl Emitter {
         }
     }
 
-    /// Emits the operands of a chain of one logical operator. If an operand before the last one decides, a jump goes to the position
-    /// `following`. Returns the condition of the last operand.
+    /// Emits the operands of a chain of only `&&` or only `||`. If an operand before the last one decides, a jump goes to the
+    /// position `following`. Returns the condition of the last operand.
     fn lower_tests(
         &mut self,
         starts: &Starts,
@@ -274,7 +274,7 @@ impl Emitter {
         Ok(condition)
     }
 
-    /// Emits the operands of a chain of one logical operator while the target of its deciding jumps is unknown.
+    /// Emits the operands of a chain of `&&` or `||` while the target of the jumps taken when an operand decides the result is unknown.
     fn lower_early(
         &mut self,
         starts: &Starts,
@@ -298,8 +298,9 @@ impl Emitter {
         Ok(Tested { last, early })
     }
 
-    /// Emits the operands of a chain of one logical operator, whose inner jumps go to the position after the conditional jump that
-    /// ends the condition. The target of the inner jumps is known only after the code of the chain was emitted once.
+    /// Emits the operands of a chain of only `&&` or only `||`. The jumps taken when an operand decides go to the position after
+    /// the conditional jump that ends the condition. The target of these jumps inside the chain is known only after the code of
+    /// the chain was emitted once.
     fn lower_chain(
         &mut self,
         starts: &Starts,
@@ -343,8 +344,8 @@ impl Emitter {
         self.lower_condition(starts, value, free)
     }
 
-    /// Emits a condition before a jump. A chain of the given logical operator is emitted operand by operand: if one operand decides,
-    /// control continues after the jump.
+    /// Emits a condition before a jump. A chain of the given operator (`&&` or `||`) is emitted operand by operand: if one operand
+    /// decides, control continues after the jump.
     pub(crate) fn lower_choice(
         &mut self,
         starts: &Starts,
@@ -372,7 +373,8 @@ impl Emitter {
         }
     }
 
-    /// Emits the condition of a branch as for the other logical operator, so that no jump of the condition waits for its target.
+    /// Emits the condition of a branch so that a chain of the other operator (`&&` for `||`, or the reverse) is emitted operand
+    /// by operand. No jump of a condition emitted in this way waits for its target.
     fn lower_settled(
         &mut self,
         starts: &Starts,
@@ -412,8 +414,8 @@ impl Emitter {
         self.lower_settled(starts, operator, value, free)
     }
 
-    /// Emits the condition of a branch before the jump over its first statement. In a chain of the given logical operator, each deciding
-    /// jump goes to the other statement of the branch.
+    /// Emits the condition of a branch before the jump over its first statement. In a chain of the given operator (`&&` or `||`), each
+    /// jump taken when an operand decides goes to the other statement of the branch.
     pub(crate) fn lower_branch(
         &mut self,
         starts: &Starts,

@@ -28,7 +28,8 @@ fn target_of(instruction: &Instruction) -> usize
     }
 }
 
-/// Returns the instruction with a nearer target: a target at a distance after `far` is replaced by the one at this distance after `near`.
+/// Returns the instruction with its jump target changed: a target at a distance after `far` is replaced by the one at this distance after
+/// `near`.
 fn turned(instruction: Instruction, far: usize, near: usize) -> Instruction
     requires { near ≤ far }
     ensures { result ≡ turned far near instruction }
@@ -67,7 +68,7 @@ fn turn(instruction: &mut Instruction, far: usize, near: usize)
 pub(crate) struct Emitter {
     pub(crate) code: Vec<Instruction>,
     pub(crate) marks: Vec<Mark>,
-    /// The source position of the instructions that follow.
+    /// The source position that is recorded for the instructions emitted next.
     here: Span,
     /// True if the emitter records the source positions of instructions.
     is_marked: bool,
@@ -98,7 +99,7 @@ impl Emitter {
         outer
     }
 
-    /// Sets the source position of the following instructions back to the outer one.
+    /// Sets the source position of the following instructions back to that of the enclosing construct.
     pub(crate) fn leave(&mut self, outer: Span)
         ensures { self.new.code.items ≡ self.old.code.items }
     {

@@ -55,7 +55,7 @@ fn with_mark(opened: Opened, slot: usize) -> Opened
     }
 }
 
-/// Returns the exits of a statement in the body of a `try`, whose handler record begins at this slot.
+/// Returns the exits (the handlers and regions to close) of a statement in the body of a `try`, whose handler record begins at this slot.
 pub(crate) fn inside_try(exits: Exits, slot: usize) -> Exits
     ensures { result ≡ inside_try exits slot }
 {
@@ -67,7 +67,8 @@ pub(crate) fn inside_try(exits: Exits, slot: usize) -> Exits
     }
 }
 
-/// Returns the exits of a statement after the opening of a lexical region, for which this slot holds the number of regions open before.
+/// Returns the exits (the handlers and regions to close) of a statement after a lexical region is opened; this slot holds the number of
+/// regions open before.
 fn inside_region(exits: Exits, slot: usize) -> Exits
     ensures { result ≡ inside_region exits slot }
 {
@@ -79,7 +80,8 @@ fn inside_region(exits: Exits, slot: usize) -> Exits
     }
 }
 
-/// Returns the exits of the statements after a declaration or statement of a block, before which the temporaries begin at this slot.
+/// Returns the exits (the handlers and regions to close) of the statements that follow an element of a block; before this element,
+/// the temporaries begin at this slot.
 pub(crate) fn exits_after(item: &Item, exits: Exits, free: usize) -> Exits
     ensures { result ≡ exits_after item.now exits free }
 {

@@ -498,7 +498,7 @@ impl Emitter {
         }
     }
 
-    /// Emits the left operand of a chain, which may need no code if evaluating the right operand has no side effect.
+    /// Emits the left operand of a chain of operators, which may need no code if evaluating the right operand has no side effect.
     #[cycle(expression)]
     fn lower_left(
         &mut self,

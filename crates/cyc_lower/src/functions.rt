@@ -37,7 +37,7 @@ const TAG_SLOTS: usize = 1;
 /// The number of machine words of a frame that hold neither locals, nor values kept across statements, nor temporaries.
 const KEPT_WORDS: usize = 24;
 
-/// A position beyond the end of any function's code and of the blocks after it.
+/// A position beyond the end of any function's code and of the blocks after it that raise exceptions.
 const FAR: usize = 9_223_372_036_854_775_816;
 
 /// The number of instructions of a function's blocks that raise exceptions.
@@ -53,8 +53,8 @@ fn results_of(of_type: &Option<Ty>) -> usize
     }
 }
 
-/// Returns the number of instructions of the exception blocks that are kept, computed from the farthest jump target.
-/// The first two instructions of the exception blocks belong to one block.
+/// Returns how many instructions of the blocks that raise exceptions are kept, computed from the farthest jump
+/// target. The first two instructions of a function's blocks that raise exceptions belong to one block.
 fn blocks_kept(farthest: usize) -> usize
     ensures { result ≡ blocks_kept farthest }
 {
@@ -84,8 +84,9 @@ fn lower_body(
 }
 
 /// Lowers a function. The slots of a function hold its locals, the tag of an exception, the handler records, the temporaries and one more
-/// value. The body is emitted with far targets for the exception blocks, whose positions are known only afterwards. The far targets in
-/// the emitted body are then replaced. The exception blocks are kept up to the last one that is a jump target.
+/// value. The body is emitted with provisional targets, far after its code, for the blocks that raise exceptions, whose positions are
+/// known only afterwards. The provisional targets in the emitted body are then replaced. The blocks that raise exceptions are kept up to
+/// the last one that is a jump target.
 fn lower_function(
     alloc: Global,
     structs: &[StructType],
@@ -198,8 +199,8 @@ pub(crate) fn lower_tree(alloc: Global, tree: &TypedTree) -> Result<Plain, Alloc
     Ok(Plain::new(functions, globals, tree.main))
 }
 
-/// Returns the source positions of a function's code. The exception blocks may be at any position, since changing targets changes no
-/// source position.
+/// Returns the source positions of a function's code. The blocks that raise exceptions may be at any position, since changing
+/// targets changes no source position.
 fn marks_of_function(
     alloc: Global,
     structs: &[StructType],

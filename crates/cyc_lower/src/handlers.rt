@@ -58,7 +58,7 @@ impl Emitter {
         })
     }
 
-    /// Emits a catch clause. The jump at the end of a catch clause goes to the jump over all catch clauses.
+    /// Emits a catch clause. At the end of a catch clause, a jump goes to the instruction that jumps over all catch clauses of the `try`.
     #[cycle(statement)]
     fn lower_clause(
         &mut self,

@@ -87,8 +87,8 @@ impl Emitter {
         self.emit(Instruction::Jump { target: end })
     }
 
-    /// Emits a loop that has none of the special forms in this file. The jump to the loop's end is before its body, so the position of
-    /// this jump is known before the body is emitted.
+    /// Emits a loop that has a `break`, or whose condition is not light (simple enough to be emitted twice). The jump to the loop's
+    /// end is before its body, so the position of this jump is known before the body is emitted.
     #[cycle(statement)]
     pub(crate) fn lower_loop(
         &mut self,

@@ -27,7 +27,7 @@ pub struct Mark {
 pub struct Marks {
     pub marks: Vec<Mark>,
     /// The index of the first instruction of the blocks that raise exceptions for all failing checks of the function. The instructions of
-    /// these exception blocks have no source position of their own.
+    /// the blocks that raise exceptions have no source position of their own.
     pub raises: usize,
 }
 

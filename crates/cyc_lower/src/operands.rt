@@ -222,7 +222,7 @@ pub(crate) fn masks(from: Kind, to: Kind) -> bool
     }
 }
 
-/// Returns true if a conversion does not change the words of a value.
+/// Returns true if a conversion does not change the machine words of a value.
 pub(crate) fn keeps_words(from: Kind, to: Kind) -> bool
     ensures { result ≡ keeps_words from to }
 {
@@ -250,8 +250,8 @@ pub(crate) fn is_thin(kind: Kind) -> bool
     }
 }
 
-/// Returns the representation kind (int, char, pointer, ..) of a cell, which is memory for one
-/// value of this type. No cell has a struct type.
+/// Returns the representation kind (int, char, pointer, ..) of a cell, which is memory for one value of this type. No cell has a struct
+/// type.
 pub(crate) fn kind_of(of_type: &Ty) -> Kind
     ensures { result ≡ kind_of (view_ty of_type.now) }
 {

@@ -202,7 +202,7 @@ impl Emitter {
     }
 
     /// Emits the comparison of an index with the length of a fat pointer, which is 0 for null. If the index is within bounds, a jump skips
-    /// the code that chooses the exception.
+    /// the code that chooses which exception is raised.
     fn stay_inside(&mut self, starts: &Starts, first: usize, index: usize) -> Result<(), AllocError>
         ensures { Appends result self.old self.new (inside_code (view_starts starts.now) first index (length self.old.code.items)) }
     {

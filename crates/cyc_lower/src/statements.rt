@@ -103,7 +103,7 @@ impl Emitter {
         Ok(())
     }
 
-    /// Emits a statement, whose exits (the handlers and regions to close) are given.
+    /// Emits a statement; the handlers and regions to close when it leaves a loop or the function (its exits) are given.
     #[cycle(statement)]
     pub(crate) fn lower_statement(
         &mut self,

@@ -66,7 +66,8 @@ char_is_masked : function_code [] [] None (function [] (Int ∷ Char ∷ []) (al
     ∷ instructions.Finish 2 ∷ []
 char_is_masked = refl
 
--- An int is stored in a cell of type char through a temporary, which comes after the temporary of the address.
+-- An int is stored in a memory cell of type char: its low byte is first moved to a temporary, the one after
+-- the temporary that holds the cell's address.
 char_is_stored : function_code [] [] None (function [] (Int ∷ star ∷ []) (all (puts 1 (local 0) ∷ []))) ≡
     instructions.Branch comparisons.Equal (Slot 1) (Constant 0) 7 ∷ Move 3 (Slot 1)
     ∷ instructions.Binary plain_binary.And 4 (Slot 0) (Constant 255) ∷ instructions.StoreByte (Slot 3) 0 (Slot 4)
@@ -131,7 +132,7 @@ char_global_is_stored_to = refl
 
 -- struct S { char a; int b; char c; char d; }; struct S @s = new S{1, 2, 300, 4}; s->a = 9; s->c :=: s->d; return s->a * 1000 + s->c * 100
 -- + s->d;
--- The block of the struct is at the first address of the heap store.
+-- In this example the struct is allocated at the first address of the heap store.
 abbrev s_at : Ty
 s_at = Pointer NonNull (Struct 0 []) Heap
 

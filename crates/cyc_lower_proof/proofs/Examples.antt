@@ -352,7 +352,8 @@ neither_code : code_of_body (all (If (Unary unary.Not (two (local 0) (ThenTest O
     ∷ instructions.Finish 2 ∷ []
 neither_code = refl
 
--- In a negated `&&`, each operand that fails decides the condition.
+-- In a condition that negates an `&&`, an operand of the `&&` that is false makes the condition true, and control reaches the statement of
+-- the `if`.
 not_both_code : code_of_body (all (If (Unary unary.Not (two (local 0) (ThenTest AndThen (two (local 1) (ThenCompute Less (Number 3) NoOperations)) NoOperations))) (returns (local 1)) Empty ∷ [])) ≡
     jump_if_zero (Slot 0) 2 ∷ instructions.Branch comparisons.Less (Slot 1) (Constant 3) 3
     ∷ instructions.Finish 1
@@ -381,7 +382,8 @@ continued_code : code_of_body (all (While nowhere (two (local 0) (ThenCompute Le
     ∷ instructions.Finish 2 ∷ []
 continued_code = refl
 
--- The code of a branch that contains a division; the check of the divisor jumps to the last block of the function if it fails.
+-- The code of an `if` whose statement contains a division; if the divisor is 0, a jump goes to the last block of the function,
+-- which raises an exception.
 branch_code : code_of_body (all (If (local 0) (Evaluate (two (local 0) (ThenCompute Divide (local 1) NoOperations))) Empty ∷ [])) ≡
     jump_if_zero (Slot 0) 3
     ∷ jump_if_zero (Slot 1) 9 ∷ instructions.Binary plain_binary.Divide 3 (Slot 0) (Slot 1)

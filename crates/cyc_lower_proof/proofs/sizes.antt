@@ -1,4 +1,5 @@
--- This module proves the rest of the lowering's contract: the plain program is well-formed, consists of 32-bit words, and is small.
+-- This module proves the rest of the lowering's contract: the plain program is well-formed, consists of 32-bit words, and has a
+-- size bounded by the tokens of the source.
 pub mod RangeLemmas
 pub mod ValueRoom
 pub mod ValueRanges

@@ -9,5 +9,5 @@ pub mod ControlCode
 pub mod ExpressionCode
 pub mod Lowering
 pub mod Slots
--- This module contains the bounds on which the code relies.
+-- This module contains the bounds, on the words of frames and the targets of jumps, on which the code relies.
 pub mod Bounds

@@ -1,4 +1,4 @@
-//! A device that refuses every exchange of a byte, for runs without devices.
+//! A device that refuses every exchange of a byte, for runs that use no input and no output.
 
 ghost use Rattle.std.specs.Prelude.{None, false, true};
 

@@ -1,5 +1,5 @@
-//! Partially stored memory ranges. The first words of the data range and the last words of the stack are stored, and all other words are
-//! 0. Space is reserved for all words of a range, and the stored part grows when another word is loaded or written.
+//! Memory ranges of which only a part is stored. The first words of the data range and the last words of the stack are stored, and all
+//! other words are 0. Space is reserved for all words of a range, and the stored part grows when another word is loaded or written.
 
 ghost use Rattle.std.specs.Prelude.{◌≡◌, ◌+◌, ◌-◌, ◌*◌, ◌^◌, ◌<◌, ◌≤◌, ◌++◌, length, max, min, nat_le, replicate, slice_index, slice_set};
 ghost use Rattle.std.specs.Prelude.{vec_capacity, if◌then◌else◌};
@@ -7,8 +7,8 @@ ghost use Rattle.cyc_machine.specs.Arrays.{all_globals, all_stack};
 
 use cyc_machine_model::constants::DATA_WORDS;
 
-/// Returns the number of words to store, from the stored number, the required number and the maximum. The number at least doubles when
-/// it grows, so that each word is moved only a few times.
+/// Returns the number of words to store, from the number stored now, the number required and the maximum. The number of stored words
+/// at least doubles when it grows, so that each word is moved only a few times.
 fn kept_next(kept: usize, wanted: usize, most: usize) -> usize
     requires kept { kept ≤ most }
     requires short { most ≤ 2 ^ 32 }
@@ -21,7 +21,7 @@ fn kept_next(kept: usize, wanted: usize, most: usize) -> usize
     }
 }
 
-/// Extends the stored words, which start at the first word of the range, to `count` words.
+/// Extends the stored words of a memory range, which start at the range's first word, to `count` words.
 fn keep_first(kept: &mut Vec<u32>, count: usize)
     requires more { length kept.old.items ≤ count }
     requires room { count ≤ vec_capacity kept.old }
@@ -33,7 +33,7 @@ fn keep_first(kept: &mut Vec<u32>, count: usize)
     };
 }
 
-/// Extends the stored words, which end at the last word of the range, to `count` words.
+/// Extends the stored words of a memory range, which end at the range's last word, to `count` words.
 fn keep_last(kept: &mut Vec<u32>, count: usize)
     requires more { length kept.old.items ≤ count }
     requires room { count ≤ vec_capacity kept.old }

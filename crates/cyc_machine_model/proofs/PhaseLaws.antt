@@ -1,4 +1,4 @@
--- The event of a step determines the machine's phase after the step.
+-- The event of a step determines the machine's phase (running, waiting or ended) after the step.
 use Rattle.std.proofs.Common.{◌≡◌, ◌∙◌, ℕ, Option, None, Some, true, false, cond, refl, sym, ap}
 use Rattle.cyc_isa.specs.declared.instr.Instr.{Instr}
 use Rattle.cyc_isa.specs.declared.instr.Instr.TheVariants.{Immediate, LoadUpper, Memory, Branch, BranchZero, Jump, Shift, ShiftVariable, JumpRegister, JumpRegisterLink, Exception, MoveFrom, MultiplyDivide, Arithmetic}
@@ -15,7 +15,7 @@ use Rattle.cyc_machine_model.specs.State.{State, text_at}
 use Rattle.cyc_machine_model.specs.Step.{Action, Does, Calls, Service, GetByte, PutByte, EndReturned, EndUncaught, Asks, EndFull, reported_by, answered, with_store, Serves, Acts, StepIn}
 use Rattle.cyc_machine_model.specs.Step.{Step, action_of, refuses, reads_text, decodes, refuses_or_performs, performs, calls, asked, cause_of, after, instruction_of, is_aligned}
 
--- Executing an ordinary instruction leaves the machine's phase unchanged.
+-- Executing an ordinary instruction leaves the machine's phase (running, waiting or ended) unchanged.
 phase-after : (s : State) (i : Instr) → (after s i).phase ≡ s.phase
 phase-after s (Memory LoadWord t b h) = refl
 phase-after s (Memory StoreWord t b h) = refl
@@ -35,7 +35,8 @@ phase-after s (MoveFrom op d) = refl
 phase-after s (MultiplyDivide op l r) = refl
 phase-after s (Arithmetic op d l r) = refl
 
--- `Tells` says that the event of an action without choice determines the phase after the action.
+-- `Tells` says that the event of an action that involves no choice of the store determines the machine's phase (running, waiting or ended)
+-- after the action.
 abbrev Tells : Action → Type 0
 Tells (Does event new) = new.phase ≡ phase_after event
 Tells (Calls service) = Unit {0}
@@ -80,12 +81,13 @@ action_of_tells s running =
       | false ↦ refl
     ]
 
--- If a step's event and state equal those of an action, the event determines the phase after the step.
+-- If a step's event and state equal those of an action, the event determines the machine's phase (running, waiting or ended) after the
+-- step.
 tells_both : (old : State) (event reported : Event) (new left : State) → left.phase ≡ phase_after reported → event ≡ reported → new ≡ left → new.phase ≡ phase_after event
 tells_both old event reported new left tells same_event same_state =
     ap (λ s. s.phase) same_state ∙ (tells ∙ ap phase_after (sym same_event))
 
--- The event of the store's result determines the machine's phase after the result.
+-- The event of the store's result determines the machine's phase (running, waiting or ended) after the result.
 answered_tells : (s : State) (answer : Answer) → s.phase ≡ Running → (answered s answer).phase ≡ phase_after (reported_by answer)
 answered_tells s (Refused why) running = refl
 answered_tells s Done running = running

@@ -4,6 +4,6 @@ pub mod Step
 pub mod Run
 pub mod Bounds
 pub mod Start
--- the MIPS machine as a transition system, and the parts of its state that no step changes
+-- the MIPS machine as a transition system, and the text and the sizes that no step changes
 pub mod WorldMachine
 pub mod Shape

@@ -21,7 +21,7 @@ pub enum Cause {
     WriteToText,
     /// A `break` instruction.
     Break,
-    /// A `syscall` whose number is that of no system call, or whose request was refused.
+    /// A `syscall` whose number is that of no system call, or whose request the store refused for another reason than lack of pages.
     BadService,
 }
 
@@ -32,7 +32,7 @@ pub enum End {
     Returned(i32),
     /// An exception was not caught. The fields are the exception's number, and its value, or 0 if it has none.
     Uncaught(u32, i32),
-    /// A request failed because the store had no free pages, or a call because the stack had no space for it.
+    /// A request to the store failed because the store had no free pages, or a function call failed because the stack had no space for it.
     Full,
     /// The machine refused to execute an instruction.
     Trap(Cause),
@@ -56,8 +56,8 @@ pub enum Event {
 /// The exchange of data between an instruction and the input and output devices.
 #[derive(Clone, Copy, Debug, PartialEq, Eq)]
 pub enum Exchange {
-    /// The next instruction exchanges no data, or it has an event that only `step` reports. The
-    /// instruction was not executed, and the machine's state is unchanged.
+    /// The next instruction exchanges no data, or it has an event that only `step` reports. The instruction was not executed, and the
+    /// machine's state is unchanged.
     Nothing,
     /// The program requests a byte of input. The machine waits until the byte is supplied.
     Wants,

@@ -34,7 +34,7 @@ pub fn shape_stays()
     ensures { (count : ℕ) (old new : World) → Run count old new → SameShape old.machine new.machine }
 {}
 
-/// The event of a step determines the machine's phase after the step: only `Ended` ends a run.
+/// The event of a step determines the machine's phase (running, waiting or ended) after the step: only `Ended` ends a run.
 pub fn events_tell_the_phase()
     ensures { (old new : State) (event : Event) → Step old event new → new.phase ≡ phase_after event }
 {}

@@ -102,7 +102,7 @@ char_by_its_address : end (program (
     ∷ [])) ≡ HasEnded (Returned (pos 255))
 char_by_its_address = refl
 
--- char ?s = new {for i < 4 : char(65 + i)}; s[0] :=: s[3]; s[1] = 256 + 90; putchar(s[i]) for each i
+-- example `char ?s = new {for i < 4 : char(65 + i)}; s[0] :=: s[3]; s[1] = 256 + 90;` makes the chars 68, 90, 67 and 65
 abbrev s : ℕ → Dereference
 s i = Element (variable 0 fat) (Number i) Char
 

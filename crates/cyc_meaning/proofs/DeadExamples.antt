@@ -45,7 +45,7 @@ freed_and_compared_with_null = refl
 freed_and_compared_with_null_value : end (freed (define 1 star (null_as star) ∷ return (apply (peek 0 own) pointers.EqualThin (variable 1 star) Int) ∷ [])) ≡ HasEnded (Returned (pos 0))
 freed_and_compared_with_null_value = refl
 
--- Taking the address of a freed cell is not an access, so it is not dead.
+-- Taking the address of a freed cell is not an access, so it is not a dead access (an access to freed memory).
 freed_and_located : end (freed (return (apply (typed.AddressOfCell (target own (peek 0 own)) at) pointers.ThinIsNull NullPointer Int) ∷ [])) ≡ HasEnded (Returned (pos 0))
 freed_and_located = refl
 
@@ -170,7 +170,8 @@ closed_region's_freed = refl
 read_of_nothing : end (program (Declare 0 Int None ∷ return (local 0) ∷ [])) ≡ IsWrong
 read_of_nothing = refl
 
--- Using a local that was never declared is wrong, and so is using a counter outside every `for`.
+-- Using a local that was never declared is wrong, and so is using the loop counter of an array initializer `for` outside of every such
+-- `for`.
 no_local : end (program (return (local 3) ∷ [])) ≡ IsWrong
 no_local = refl
 
@@ -201,7 +202,7 @@ wrong_kind_of_element = refl
 wrong_kind_compared : end (program (define 0 fat (null_as fat) ∷ return (apply (variable 0 fat) pointers.EqualThin NullPointer Int) ∷ [])) ≡ IsWrong
 wrong_kind_compared = refl
 
--- Applying `ufree` to an object in a region is wrong.
+-- Applying `ufree` to an object in a region makes the program's state wrong.
 free_of_a_region's : end (program (execute (FreeUnique (new OnHeap at (Number 1))) ∷ [])) ≡ IsWrong
 free_of_a_region's = refl
 

@@ -210,14 +210,14 @@ greater_or_equal_not = refl
 
 -- ---- evaluation from left to right
 
--- putchar(65) - putchar(66) * putchar(67)
+-- example `putchar(65) - putchar(66) * putchar(67)`: the three calls are evaluated from left to right
 operands_are_in_order : prints (two (print (Number 65)) operators.Subtract (two (print (Number 66)) operators.Multiply (print (Number 67)))) ≡ 65 ∷ 66 ∷ 67 ∷ []
 operands_are_in_order = refl
 
 order_of_operators : value (two (print (Number 65)) operators.Subtract (two (print (Number 66)) operators.Multiply (print (Number 67)))) ≡ HasEnded (Returned (negsuc 4356))
 order_of_operators = refl
 
--- putchar(67) - putchar(66) - putchar(65)
+-- example `putchar(67) - putchar(66) - putchar(65)`: the operands of the chain are evaluated from left to right
 chain_is_in_order : prints (Binary (print (Number 67)) (ThenCompute operators.Subtract (print (Number 66)) (ThenCompute operators.Subtract (print (Number 65)) NoOperations)) Int) ≡ 67 ∷ 66 ∷ 65 ∷ []
 chain_is_in_order = refl
 
@@ -255,15 +255,15 @@ or_of_a_last_value = refl
 or_of_zeros : value (either (Number 0) (Number 0)) ≡ HasEnded (Returned (pos 0))
 or_of_zeros = refl
 
--- 0 && putchar(65) || putchar(66)
+-- example `0 && putchar(65) || putchar(66)`: only `putchar(66)` is evaluated
 and_before_or : prints (either (both (Number 0) (print (Number 65))) (print (Number 66))) ≡ 66 ∷ []
 and_before_or = refl
 
--- 1 || putchar(65) && putchar(66)
+-- example `1 || putchar(65) && putchar(66)`: nothing of the right operand of `||` is evaluated
 or_skips_all_of_its_right : prints (either (Number 1) (both (print (Number 65)) (print (Number 66)))) ≡ []
 or_skips_all_of_its_right = refl
 
--- 1 && putchar(65) && 0 && putchar(66)
+-- example `1 && putchar(65) && 0 && putchar(66)`: only `putchar(65)` is evaluated
 chain_of_and : prints (Binary (Number 1) (ThenTest logical.AndThen (print (Number 65)) (ThenTest logical.AndThen (Number 0) (ThenTest logical.AndThen (print (Number 66)) NoOperations))) Int) ≡ 65 ∷ []
 chain_of_and = refl
 
@@ -543,7 +543,7 @@ demand_at_the_start = refl
 
 -- ---- regions
 
--- Returns the numbers of the open regions, counted from the given number on.
+-- Returns the numbers of the open regions in a list, where the first region of the list has the given number.
 abbrev open_from : ℕ → List Region → List ℕ
 open_from number [] = []
 open_from number (r ∷ regions) = if r.is_open then number ∷ open_from (suc number) regions else open_from (suc number) regions

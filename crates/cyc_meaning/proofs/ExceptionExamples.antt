@@ -132,7 +132,7 @@ full_with_one_page = refl
 full_with_one_page_printed : printed_within 1 2 stops_twice ≡ 120 ∷ []
 full_with_one_page_printed = refl
 
--- `throw new Div_zero;`, a built-in exception
+-- `throw new Div_zero;` throws a built-in exception, whose number is 4
 own_exception : end (program (throw 4 None ∷ [])) ≡ HasEnded (Uncaught 4 (pos 0))
 own_exception = refl
 
@@ -225,7 +225,7 @@ thrown_often_full_prints : printed_within 1 2 thrown_often ≡ []
 thrown_often_full_prints = refl
 
 -- int f(int n){ try return f(n + 1); catch { default: putchar(88); return 0; } } putchar(65); return f(0);
--- Running out of calls ends the run and is not an exception, so no clause catches it.
+-- A call that would exceed the limit on active calls ends the run. This is not an exception, so no catch clause catches it.
 abbrev endless : Program
 endless = program_with (function (Int ∷ []) (
     try_to (typed.Return (Some (int (call 1 (two (local 0) operators.Add (Number 1) ∷ []))))) (otherwise (execute (print (Number 88)) ∷ return (Number 0) ∷ []))

@@ -100,7 +100,7 @@ ints (suc n) = Int ∷ ints n
 of_ints : frame_count (record (procedure [] []) { locals = ints 232 }) ≡ 256
 of_ints = refl
 
--- The declaration `region<`a> h;` counts two words for its handle, and `region<`k> h = open(k);` counts one: 24 + 1 + 1
+-- `region<`a> h;` counts two words for its handle, so the frame has 24 + 1 + 1 words; `region<`k> h = open(k);` counts one: 24 + 1
 of_lexical : frame_count (record (procedure [] (DeclareRegion 1 0 ∷ [])) { locals = Handle Heap ∷ [] }) ≡ 26
 of_lexical = refl
 

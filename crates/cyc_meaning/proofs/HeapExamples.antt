@@ -201,7 +201,7 @@ thinned = refl
 thinned_past_the_end : long_end (program (letters ∷ define 1 star (convert fat star (apply (variable 0 fat) pointers.AddFat (Number 3) fat)) ∷ return (Number 0) ∷ [])) ≡ HasEnded (Uncaught 2 (pos 0))
 thinned_past_the_end = refl
 
--- int @p = new 5; int ?q = p; return numelts(q); and this program with numelts(q + 1)
+-- example `int @p = new 5; int ?q = p; return numelts(q);` returns 1; with `numelts(q + 1)` it returns 0
 one_element : end (program (define 0 fat (convert at fat (new OnHeap at (Number 5))) ∷ return (NumberOfElements (variable 0 fat)) ∷ [])) ≡ HasEnded (Returned (pos 1))
 one_element = refl
 
@@ -375,6 +375,6 @@ equal_pointers : end (program (
     ∷ [])) ≡ HasEnded (Returned (pos 2))
 equal_pointers = refl
 
--- `return (p == NULL) + (NULL == p) * 2` for a null pointer p
+-- example `return (p == NULL) + (NULL == p) * 2`: for a null pointer p, the result is 3
 null_is_null : end (program (define 0 star (null_as star) ∷ return (two (apply (variable 0 star) pointers.ThinIsNull NullPointer Int) operators.Add (two (apply NullPointer pointers.NullIs (variable 0 star) Int) operators.Multiply (Number 2))) ∷ [])) ≡ HasEnded (Returned (pos 3))
 null_is_null = refl

@@ -145,7 +145,7 @@ scopes_less regions closes r ns none gone are number = elim (cases_eq closes num
   | inr other ↦ ap is_open_scope (slice_get-set_other regions closes number r (λ e. other (sym e))) ∙ are number other
 ]
 
--- Replacing a region by another one of its sort keeps the list of open lexical regions.
+-- If a region is replaced by one that is an open lexical region exactly if the old one is, the list of open lexical regions stays correct.
 scopes_set : (regions : List Region) (number : ℕ) (r s : Region) (ns : List ℕ) → slice_get regions number ≡ Some r → is_scope s.sort s.is_open ≡ is_scope r.sort r.is_open → AreScopes regions ns → AreScopes (set regions number s) ns
 scopes_set regions number r s ns there same are i = go regions number i there ∙ are i
   where

@@ -1,4 +1,4 @@
--- The possible outcomes of a step are distinguished once, and each law of the step follows from them.
+-- Every step of a program has one of a few possible outcomes; each law of the step follows from these outcomes.
 use Rattle.std.proofs.Common.{◌≡◌, ℕ, suc, Bool, true, false, List, [], ◌∷◌, length, reverse, Option, Some, None, refl, subst}
 use Rattle.std.specs.Prelude.{◌==◌, ◌*◌, ◌&&◌, nat_le, if◌then◌else◌, slice_get}
 use Rattle.cyc_words.specs.Ending.{Ending, Returned, Uncaught, Full}

@@ -67,7 +67,7 @@ at_5 = refl
 at_6 : at 6 ≡ (Some (Given (int 1)), Needs (Chain (ThenCompute operators.Add (Number 2) NoOperations)) ∷ waiting)
 at_6 = refl
 
--- The left operand of a sum is evaluated, and its continuation waits for the right one.
+-- The left operand of a sum has its value; the right operand is evaluated next, and a continuation waits for the right operand's value.
 at_7 : at 7 ≡ (Some (Evaluating (Number 2)), Needs (Apply operators.Add (int 1)) ∷ Needs (Chain NoOperations) ∷ waiting)
 at_7 = refl
 

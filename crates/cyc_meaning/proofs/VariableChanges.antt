@@ -134,8 +134,8 @@ pub named_made_unique : (cells : List Cell) (globals : ℕ) (stack : List Entry)
 named_made_unique cells globals stack locals w h =
     passes w.objects w.regions (made_unique w cells).objects (made_unique w cells).regions (unique_passes cells w h.6) globals stack locals h
 
--- Replacing an object by another one with the same owner keeps the invariant that each live
--- variable is a global or a local of an active call.
+-- Replacing an object by another one with the same owner keeps the invariant that each live variable is a global or a local of an active
+-- call.
 same_passes : (number : ℕ) (x y : Object) (w : World) → slice_get w.objects number ≡ Some x → region_of y.owner ≡ region_of x.owner → LiveInRegions w.objects w.regions → Passes w.objects w.regions (set w.objects number y) w.regions
 same_passes number x y w there same inside = record {
   lives = λ object region lives. lives_same w.objects number object x y there same ∙ lives;

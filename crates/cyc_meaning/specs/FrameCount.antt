@@ -108,7 +108,7 @@ abbrev mutual
   arguments_need NoArguments before = 0
   arguments_need (MoreArguments c cs) before = max (before + converted_need c) (arguments_need cs (before + converted_words c))
 
-  -- Returns the need of temporary words of a chain's operations, if the left operand of the first operation has `left` words.
+  -- Returns the need of temporary words of the operations in a chain (as in `a + b - c`); the chain's first operand has `left` words.
   pub operations_need : Operations → Ty → (left : ℕ) → ℕ
   operations_need NoOperations t left = 0
   operations_need (ThenCompute o a os) t left =

@@ -59,7 +59,8 @@ globals_number = 1
 
 -- ---- results of an access
 
--- The result of an access: the accessed thing; or that it was closed or freed; or that it is missing because it was never created.
+-- The result of an access to a region, object or cell. The accessed one was found, or was closed or freed, or is missing because
+-- it was never created.
 pub data Access (X : Type 0) : Type 0 where
   Found : X → Access X
   Closed : Access X
@@ -80,7 +81,7 @@ abbrev pub is_live : World → Owner → Bool
 is_live w (InRegion number) = is_open (slice_get w.regions number)
 is_live w (Unique live) = live
 
--- A cell together with the object that contains it.
+-- A memory cell together with the object that contains the cell.
 pub record Located : Type 0 where
   pub object : Object
   pub cell : Cell
@@ -116,7 +117,7 @@ opened w = opened_as Stack w
 abbrev pub closed : World → ℕ → Region → World
 closed w number r = record w { regions = set w.regions number (record r { is_open = false }) }
 
--- Returns the object of a variable: it has one cell and belongs to the region of the variable's block.
+-- Returns the object of a variable: it has one cell, and its owner is the region of the variable's block.
 abbrev pub variable : (region : ℕ) → Kind → Option Value → Object
 variable region kind content = record { owner = InRegion region; cells = record { kind = kind; content = content } ∷ [] }
 
@@ -159,20 +160,20 @@ with_counter e level index = record e {
 -- ---- the control stack
 
 -- Continuations that wait for a value, with the operands computed before. If `peek` is a local, a cell or an operand was reached by
--- reading that local's unique pointer without emptying it. A local that was read in this way must not change while the awaited
--- expression is evaluated.
+-- reading that local's unique pointer without emptying it. A local that was read in this way must not change until the value for
+-- which the continuation waits is computed.
 pub data Awaiting : Type 0 where
-  -- Converts the awaited value from the representation kind `from` to the kind `to`; a pointer must have the target `target`.
+  -- Waits for a value, and then converts it from the representation kind `from` to the kind `to`; a pointer must have the target `target`.
   ConvertTo : (from to : Kind) → (target : Option Kind) → Awaiting
   Operate : UnaryOperator → Awaiting
-  -- The remaining operators of a chain, which wait for the value of all operators and operands of the chain before them.
+  -- The remaining operators of a chain such as `a + b - c`. They wait for the value of everything to their left in the chain.
   Chain : Operations → Awaiting
-  -- Applies an operator to the left operand and the awaited right operand.
+  -- Waits for the right operand of an operator, and then applies the operator to the left operand and this value.
   Apply : Operator → (left : Operand) → Awaiting
   ApplyPointer : (peek : Option ℕ) → PointerOperator → (left : Operand) → Awaiting
   -- Waits for the right operand of `&&` or `||`, if the left one did not decide.
   Decide : Awaiting
-  -- Stores the awaited value in a variable, given as a thin pointer, or in a cell found by evaluating a pointer.
+  -- Waits for a value, and then stores it in a variable, given as a thin pointer, or in a cell found by evaluating a pointer.
   Store : (place : Value) → Awaiting
   StoreCell : (peek : Option ℕ) → (place : Value) → Awaiting
   -- Waits for an argument of a call, with the arguments before it (newest first) and those after it.
@@ -314,7 +315,7 @@ input_of (Ended ending output input) = input
 input_of (Dead output input) = input
 input_of (Wrong output input) = input
 
--- The status of a state: whether the state is running, or how it is over.
+-- The status of a state: the state is running, or the run has ended in a stated way.
 pub data Status : Type 0 where
   GoesOn : Status
   HasEnded : Ending → Status

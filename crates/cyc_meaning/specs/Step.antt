@@ -139,7 +139,7 @@ abbrev pub awaits_right : Bool → Awaiting → (right : Expression) → Operati
 awaits_right true waiting b rest stack e w = Running (Evaluating b) (Needs waiting ∷ Needs (Chain rest) ∷ stack) e w
 awaits_right false waiting b rest stack e w = wrong w
 
--- Continues a chain of operators with the value of the operators and operands before.
+-- Continues a chain of operators such as `a + b - c` with the value of the operators and operands evaluated so far.
 abbrev pub chained : Operations → Operand → List Entry → Environment → World → State
 chained NoOperations left stack e w = Running (Given left) stack e w
 chained (ThenCompute operator b rest) left stack e w =

@@ -36,7 +36,7 @@ bytes-beside m n kind p words wide even others x (inr high) = byte-of_same m n x
 
 -- ---- writing a byte
 
--- The memory after the byte at an address is replaced in its word.
+-- The memory in which the byte at an address is replaced, and the rest of its word is unchanged.
 abbrev pub put_byte : Memory → (address byte : ℕ) → Memory
 put_byte m x b = put m (word_of x) (with_byte (m (word_of x)) (x % 4) b)
 

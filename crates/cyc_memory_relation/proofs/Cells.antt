@@ -133,7 +133,7 @@ module _ (t : Tables) where
 
 -- ---- the number of live unique objects of a class
 
--- the size of a block of cells depends only on their kinds
+-- the size of a block of cells depends only on the cells' representation kinds (int, char, pointer, ..)
 abbrev pub size_of : List Kind → ℕ
 size_of ks = max 1 (words_for (bytes_from 0 ks))
 
@@ -180,7 +180,7 @@ module _ {t : Tables} {w : World} {s : StoreState} (related : Related t w s) {o 
       let enough : bytes_of_kinds (kinds_of x.cells) ≤ 4 * room h (block_size x.cells) = stands.enough in
       omega (arith, first, enough)
 
-  -- The address of a cell is aligned for the cell's kind.
+  -- The address of a cell is aligned as the cell's representation kind (int, char, pointer, ..) requires.
   pub cell-aligned : IsAligned c.kind p
   cell-aligned = subst (IsAligned c.kind) (sym place) (before-aligned stands.address k (kinds_of x.cells) c.kind aligned kind-there)
 

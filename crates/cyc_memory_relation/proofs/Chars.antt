@@ -20,7 +20,7 @@ pub char-kind : (kind : Kind) → is_kind kind kinds.Char ≡ true → kind ≡ 
 char-kind kinds.Char same = refl
 char-kind kind same = absurd (let e : false ≡ true = same in cc)
 
--- Cells of all kinds except char consist of whole words and are aligned.
+-- Cells of all representation kinds except char consist of whole words and are aligned.
 pub wide-bytes : (kind : Kind) → is_kind kind kinds.Char ≡ false → bytes_of_kind kind ≡ 4 * words_of_kind kind
 wide-bytes kinds.Char wide = absurd (let e : true ≡ false = wide in cc)
 wide-bytes kind wide = refl

@@ -157,7 +157,7 @@ down-newest (taken {handle = h} {r = q} {home = o} {regions = rs} {open_homes = 
 
 -- ---- the store closed so far
 
--- Before the source closes a region, the heap store as it is corresponds to the source's heap state.
+-- Closing the heap store's lexical regions until as many are open as in the source preserves the relation to the source's heap state.
 pub related-unclosed : {t : Tables} {w : World} {s : StoreState} → Related t w s → Related t w (closed_to s (scopes w.regions))
 related-unclosed {t} {w} {s} related =
     subst (λ l. Related t w (record s { regions = l })) (sym (ap (λ n. down_to n s.regions) (sym (scopes-same related.regions)) ∙ down-all s.regions)) related
@@ -182,7 +182,7 @@ closed-following {t} {w} s m n r related count there scope newest =
     (subst (λ l. IsSound (record s { regions = l })) (down_to-lower m (suc m) s.regions (omega arith) ∙ sym same) after)
     (record { sound = related.sound; after = related.sound.words; words = λ h a b here stays j below. refl }))
 
--- The heap store closes the regions that the source has already closed.
+-- One request closes all lexical regions of the heap store that the source has already closed one by one.
 pub closed-at_once : {t : Tables} {w : World} {s : StoreState} (mark : ℕ) (c : Choice) → IsSound s → Related t w (closed_to s mark)
     → refusal s (CloseTo mark) ≡ None → IsAllowed s (CloseTo mark) c → Related t w (served s (CloseTo mark) c)
 closed-at_once {t} {w} {s} mark c sound related none allowed = record {

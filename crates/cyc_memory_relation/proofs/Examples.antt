@@ -89,7 +89,7 @@ new-related = record {
   alone = λ o i h g a x y ks ls first second row also. absurd (never_none_and_some refl first.at);
 }
 
--- No object is live, so every choice of the heap store is allowed and no word must be kept.
+-- No object is live, so any handle, address and memory contents that the heap store chooses are allowed, and no word must be kept.
 may-make : IsAllowed new (Allocate UNIQUE 1) choice
 may-make = record {
   may = (placed, λ x inside. refl);
@@ -216,7 +216,7 @@ next-char = refl
 no-char : Is both kinds.Char (Int 256) (λ k. 256) 0 → ⊥
 no-char (same, small) = omega (arith, small)
 
--- An int is not a pointer, and the null pointer has no kind that excludes null.
+-- No pointer is a value of representation kind int, and null is no value of a pointer kind that excludes null.
 no-pointer : Is both kinds.Int (Thin 0 0) (λ k. STORE_BASE) 0 → ⊥
 no-pointer is = is
 

@@ -14,5 +14,5 @@ pub mod Services
 pub mod Closing
 pub mod Scopes
 pub mod Start
--- This module contains the examples and their basis.
+-- This module contains the examples of this crate.
 pub mod Examples

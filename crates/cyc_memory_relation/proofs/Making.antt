@@ -1,5 +1,5 @@
--- This file is about new objects, in a region or unique: their cells are blank, and they lie in the block that the heap store
--- chose. The pages that the source needs decide if the store is out of pages.
+-- This file is about new objects, in a region or unique: their cells contain no values yet, and they lie in the block that
+-- the heap store chose. The pages that the source needs decide if the store is out of pages.
 use Rattle.std.proofs.Common.{◌≡◌, ℕ, zero, suc, ◌+◌, ◌*◌, ◌^◌, ◌<◌, ◌≤◌, Bool, true, false, List, [], ◌∷◌, ◌++◌, length, set, None, Some, is_some, refl, sym, ap, subst, ◌∙◌, inl, inr, arith, length-set}
 use Rattle.std.specs.Prelude.{◌≢◌, ◌⊎◌, nat_lt, if◌then◌else◌, slice_get}
 use Rattle.std.proofs.lemmas.List.{length_push}
@@ -78,7 +78,7 @@ either-order true false n = refl
 either-order false true n = refl
 either-order false false n = refl
 
--- The number of live objects of a size class after one more object is added at the end.
+-- The number of live objects of a size class after one more object is added: one higher if the object is live and in this class.
 pub live-last : (class : ℕ) (xs : List Object) (x : Object)
     → live_in class (xs ++ x ∷ []) ≡ (if is_live_in class x.owner x.cells then suc (live_in class xs) else live_in class xs)
 live-last class [] x = refl

@@ -40,7 +40,7 @@ begins-first kinds.Fat = refl
 begins-first kinds.Handle = refl
 begins-first kinds.Key = refl
 
--- an offset at which a cell of a kind begins is aligned for the kind
+-- an offset at which a cell begins is aligned as the cell's representation kind (int, char, pointer, ..) requires
 pub begins-twice : (kind : Kind) (at : ℕ) → begins kind (begins kind at) ≡ begins kind at
 begins-twice kinds.Int at = omega arith
 begins-twice kinds.Char at = refl
@@ -50,7 +50,7 @@ begins-twice kinds.Fat at = omega arith
 begins-twice kinds.Handle at = omega arith
 begins-twice kinds.Key at = omega arith
 
--- After a cell of a kind, the next cell of the same kind begins without padding.
+-- After a cell of a representation kind (int, char, pointer, ..), the next cell of the same kind begins without padding.
 pub begins-following : (kind : Kind) (at : ℕ) → begins kind (following kind at) ≡ following kind at
 begins-following kinds.Int at = omega arith
 begins-following kinds.Char at = refl
@@ -64,7 +64,7 @@ begins-step : (kind : Kind) (at : ℕ) → begins kind at ≡ at → begins kind
 begins-step kind at even =
     ap (λ z. begins kind (z + bytes_of_kind kind)) (sym even) ∙ (begins-following kind at ∙ ap (λ z. z + bytes_of_kind kind) even)
 
--- Says that an address is aligned for a kind; a char may be at any address.
+-- Says that an address is aligned for a representation kind (int, char, pointer, ..); a char may be at any address.
 abbrev pub IsAligned : Kind → (address : ℕ) → Type 0
 IsAligned kinds.Int address = address % 4 ≡ 0
 IsAligned kinds.Char address = Unit {0}
@@ -129,7 +129,8 @@ one-place ks k l first second same =
       ]
     ]
 
--- The next cell begins at the first offset after this cell that is aligned for the next cell's kind.
+-- The next cell begins at the first offset after this cell that is aligned for the next cell's representation kind (int, char, pointer,
+-- ..).
 pub before-next : (at k : ℕ) (ks : List Kind) (a b : Kind) → slice_get ks k ≡ Some a → slice_get ks (suc k) ≡ Some b
     → before_from at (suc k) ks ≡ begins b (before_from at k ks + bytes_of_kind a)
 before-next at k [] a b first second = absurd (let e : None ≡ Some a = first in cc)
@@ -138,7 +139,7 @@ before-next at zero (c ∷ d ∷ ks) a b first second =
     ap (λ z. begins z (following c at)) (same_from_some second) ∙ ap (λ z. begins b (begins c at + bytes_of_kind z)) (same_from_some first)
 before-next at (suc k) (c ∷ ks) a b first second = before-next (following c at) k ks a b first second
 
--- Each cell begins at an offset that is aligned for its kind.
+-- Each cell begins at an offset that is aligned for its representation kind (int, char, pointer, ..).
 pub before-begins : (at k : ℕ) (ks : List Kind) (kind : Kind) → slice_get ks k ≡ Some kind → begins kind (before_from at k ks) ≡ before_from at k ks
 before-begins at k [] kind found = absurd (let e : None ≡ Some kind = found in cc)
 before-begins at zero (a ∷ ks) kind found = subst (λ z. begins z (begins a at) ≡ begins a at) (same_from_some found) (begins-twice a at)
@@ -152,7 +153,7 @@ pub before-first : (ks : List Kind) → before 0 ks ≡ 0
 before-first [] = refl
 before-first (kind ∷ ks) = begins-first kind
 
--- The offsets of consecutive cells of one kind differ by the bytes of one cell.
+-- The offsets of consecutive cells of one representation kind (int, char, pointer, ..) differ by the bytes of one cell.
 pub before-part : (ks : List Kind) (kind : Kind) (start i : ℕ) → ((j : ℕ) → j ≤ i → slice_get ks (start + j) ≡ Some kind)
     → before (start + i) ks ≡ before start ks + i * bytes_of_kind kind
 before-part ks kind start zero even = ap (λ n. before n ks) (add-zero start) ∙ none (before start ks) (bytes_of_kind kind)

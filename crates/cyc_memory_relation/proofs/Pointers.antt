@@ -78,7 +78,7 @@ module _ {t : Tables} where
       away : (w a b c d : ℕ) → w ≡ a + b → c ≡ b + d → w + d ≡ a + c
       away w a b c d at far = omega (arith, at, far)
 
-  -- The address of the cell at the index of a fat pointer, computed from the kind of the cell.
+  -- The address of the cell at the index of a fat pointer, computed from the cell's representation kind (int, char, pointer, ..).
   pub fat-to_cell : {o start n w : ℕ} (i : ℕ) (kind : Kind) (part : IsPartOf t o start n w) → i < n → slice_get part.kinds (start + i) ≡ Some kind
       → Points t o (start + i) (w + i * bytes_of_kind kind)
   fat-to_cell {o} {start} {n} {w} i kind part below there =
@@ -188,7 +188,7 @@ module _ (t : Tables) where
       subst (λ x. Is t kinds.NonNull x n q) (same_value e) (subst (Points t o k) (sym same) p)
   from_thin kind to u v n w q thin is e same = absurd (let k : false ≡ true = thin in cc)
 
-  -- Converting a thin pointer to another thin kind keeps its word.
+  -- Converting a thin pointer to another kind of thin pointer (nullable or never null) keeps its word.
   pub thin-to_thin : (from to : Kind) (v u : Value) (m n : ℕ → ℕ) (p q : ℕ) → is_thin from ≡ true → is_thin to ≡ true → Is t from v m p
       → conversion to v ≡ Gives u → n q ≡ m p → Is t to u n q
   thin-to_thin from to v u m n p q thin also is e same = from_thin from to u v n (m p) q also (thin-is from v m p thin is) e same

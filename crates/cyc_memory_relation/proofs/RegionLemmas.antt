@@ -1,5 +1,5 @@
 -- This file is about the correspondence between the source's regions and the heap store's regions. It shows which facts about the
--- correspondence are kept when a region opens, closes or gets a block.
+-- correspondence stay true when a region opens, closes or gets a block.
 use Rattle.std.proofs.Common.{◌≡◌, ℕ, zero, suc, ◌<◌, Bool, true, false, List, [], ◌∷◌, ◌++◌, length, set, Option, None, Some, is_some, refl, sym, ap, subst, ◌∙◌, inl, inr}
 use Rattle.std.specs.Prelude.{◌≢◌, if◌then◌else◌, slice_get}
 use Rattle.std.proofs.lemmas.List.{map-append}
@@ -227,7 +227,8 @@ module _ (hs : List (Option ℕ)) where
         ]
   ]
 
-  -- If a region changes, and stays an open store region or stops being one, then the objects of other regions stay in their store regions.
+  -- If a region changes, and stays an open region of the heap store or stops being one, objects of other regions stay in their heap store
+  -- regions.
   pub lies-set : (rs : List Region) (n h : ℕ) (q r : Region) (owner : Owner) → slice_get rs n ≡ Some r → (has_home q ≡ true → has_home r ≡ true)
       → lies_in hs (set rs n q) owner ≡ Some h → lies_in hs rs owner ≡ Some h
   lies-set rs n h q r (InRegion i) there only lies =
@@ -240,7 +241,7 @@ module _ (hs : List (Option ℕ)) where
   lies-set rs n h q r (Unique true) there only lies = lies
   lies-set rs n h q r (Unique false) there only lies = lies
 
--- Adding one region, with its entry in the table of handles, does not change in which store regions objects lie.
+-- Adding one region, with its entry in the table of handles, does not change in which of the heap store's regions objects lie.
 pub lies-last : (hs : List (Option ℕ)) (rs : List Region) (e : Option ℕ) (q : Region) (h : ℕ) (owner : Owner) → length hs ≡ length rs → Within (length rs) owner
     → lies_in (hs ++ e ∷ []) (rs ++ q ∷ []) owner ≡ Some h → lies_in hs rs owner ≡ Some h
 lies-last hs rs e q h (InRegion n) equal within lies =

@@ -48,7 +48,8 @@ block-changed rs g c h a b at =
       | inr other ↦ ap (λ o. block_in o a) (lookup-changed_other handle_of (with_block c) (λ q. refl) rs g h other ∙ there) ∙ found
     ]
 
--- Lookups in the unique region and in the other regions find the same blocks after the unique region or the others have changed.
+-- Splits lookups of blocks into two cases. If each block is found unchanged among the unique blocks and among the other regions'
+-- blocks, it is found unchanged in the whole heap store.
 block-split : (us vs : List Block) (rs qs : List Home) (h a : ℕ) (b : Block)
     → (UNIQUE ≡ h → lookup address_of us a ≡ Some b → lookup address_of vs a ≡ Some b)
     → ((UNIQUE ≡ h → ⊥) → block_at rs h a ≡ Some b → block_at qs h a ≡ Some b)

@@ -117,7 +117,7 @@ words-at-same words m n a old new even same j below =
     (λ i short. same (a + 4 * (0 + j) + i) (omega arith) (omega (arith, below, short)))
 
 module _ (t : Tables) where
-  -- If the kind of a cell is not char, then the cell contains a value exactly if its words represent the value.
+  -- If the representation kind of a cell is not char, then the cell contains a value exactly if its words represent the value.
   pub Holds-words : (kind : Kind) (v : Value) (m : Memory) (a : ℕ) → is_kind kind kinds.Char ≡ false → Holds t kind v m a → Is t kind v (words_from m a) 0
   Holds-words kinds.Int v m a wide is = is
   Holds-words kinds.Char v m a wide is = absurd (let e : true ≡ false = wide in cc)

@@ -28,8 +28,8 @@ ghost use Rattle.cyc_memory_relation.specs.inside.Words.{byte_at, Points, IsPart
 ghost use Rattle.cyc_memory_relation.specs.inside.Related.{has_home, IsOfVariable, HasKinds, Alive, LiveVariable, AreApart, AreGlobals, Related};
 ghost use Rattle.cyc_memory_relation.specs.inside.Related.{scopes, IsNewest, closed_to};
 
-/// The relation between words and values is preserved when further objects are created and regions opened. It also holds for equal words at
-/// another index.
+/// The relation between words and values is preserved when further objects are created and regions opened. The relation also holds for
+/// equal words that begin at another index.
 pub fn words_stay_values()
     ensures grows { (t u : Tables) (kind : Kind) (v : Value) (words : ℕ → ℕ) (place : ℕ) → Grows t u → Is t kind v words place → Is u kind v words place }
     ensures same { (t : Tables) (kind : Kind) (v : Value) (words others : ℕ → ℕ) (place other : ℕ)
@@ -122,8 +122,8 @@ pub fn cells_are_read_and_written()
         → Holds t at.cell.kind v m word → Related t (written w object offset at v) (record s { memory = m }) }
 {}
 
-/// A new object has blank cells and lies in the block that the heap store chose, for every choice. The address of the block is the
-/// pointer to the object.
+/// A new object has cells without values and lies in the block that the heap store chose, for every allowed choice. The address of
+/// the block is the pointer to the object.
 pub fn objects_are_made()
     ensures home { (t : Tables) (w : World) (s : StoreState) (number handle : ℕ) (r : Region) → Related t w s → region_at w number ≡ Found r
         → slice_get t.handles number ≡ Some (Some handle) → (slice_get w.regions number ≡ Some r) × (has_home r ≡ true) }

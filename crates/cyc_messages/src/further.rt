@@ -127,8 +127,8 @@ impl Mended {
         })
     }
 
-    /// Returns the statements that replace the body of a function. They throw an exception, so no
-    /// path reaches the end of the body, and they need no result.
+    /// Returns the statements that replace the body of a function. They throw an exception, so no path reaches the end of the body, and
+    /// they need no result.
     fn thrown(&self, span: Span) -> Result<Vec<Item>, AllocError> {
         let mut items = Vec::new(self.alloc);
         items.push(Item::Statement {
@@ -152,8 +152,8 @@ impl Mended {
         }
     }
 
-    /// Replaces the body of the rejected declaration. Also replaces the bodies before it that are not
-    /// replaced yet, and keeps them for `put_back`.
+    /// Replaces the body of the rejected declaration. Also replaces the bodies before it that are not replaced yet, and keeps them for
+    /// `put_back`.
     fn leave_out(&mut self, refused: usize, span: Span) -> Result<(), AllocError> {
         for declaration in self.next..refused {
             let items = self.thrown(span)?;

@@ -1,4 +1,4 @@
-//! Conversion of one type to another, which may require that one region outlives another.
+//! Conversion of values from one type to another, which may require that one region outlives another.
 ghost use Rattle.std.specs.Prelude.{◌≡◌, IfOk};
 ghost use Rattle.cyc_syntax.specs.inside.TreeView.{place_of_span};
 ghost use Rattle.cyc_types.specs.declared.region.Region.TheVariants.{Heap};
@@ -58,7 +58,7 @@ fn is_null_allowed(value: Given<'_>, wanted: &Ty) -> bool
     }
 }
 
-/// Returns true if the region of a pointer outlives the region of the wanted type.
+/// Returns true if the region of a pointer outlives the region of the pointer type to which it is to be converted.
 fn is_type_outlived(scope: &Scope<'_>, of_type: &Ty, wanted: &Ty) -> bool
     ensures { result ≡ is_outlived scope.now.regions (Value (view_ty of_type.now)) (view_ty wanted.now) }
 {

@@ -1,4 +1,4 @@
-//! Tests of types that the typing rules use as conditions, and functions that return parts of types.
+//! Tests of types that the typing rules use as conditions, and functions that return the region, the target or the struct of a type.
 ghost use Rattle.std.specs.Prelude.{◌≡◌, IfOk};
 ghost use Rattle.cyc_types.specs.Types.{region_eq, Value};
 ghost use Rattle.cyc_types.specs.TypeView.{view_ty};
@@ -22,7 +22,7 @@ pub fn same_region(a: Region, b: Region) -> bool
     }
 }
 
-/// Returns true if the types are equal in all parts.
+/// Returns true if the types are equal, including their regions, pointer kinds and target types.
 pub fn same_type(a: &Ty, b: &Ty) -> bool
     ensures { result ≡ ty_eq (view_ty a.now) (view_ty b.now) }
 {

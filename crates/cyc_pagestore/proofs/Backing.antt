@@ -1,5 +1,5 @@
--- A pool of pages, together with the data kept beside it, represents a page table. The representation is kept when a page is taken and
--- when all pages are renumbered. In the lemmas the data of pages are functions from page numbers.
+-- A pool of pages, together with the table's data stored outside the pool, represents a page table. The representation is kept when a
+-- page is taken and when all pages are renumbered. In the lemmas the data of pages are functions from page numbers.
 use Rattle.std.proofs.Common.{◌≡◌, ℕ, ◌<◌, true, false, List, [], ◌∷◌, length, refl, sym, ap, subst, ◌∙◌, inl, inr}
 use Rattle.std.specs.Prelude.{◌==◌, if◌then◌else◌}
 use Rattle.std.specs.List.{AllByRecursion}

@@ -1,4 +1,4 @@
--- A pool and the data kept beside it still represent a page table after all pages of a region are freed.
+-- A pool, with the table's data stored outside the pool, still represents a page table after all pages of a region are freed.
 use Rattle.std.proofs.Common.{◌≡◌, ℕ, zero, suc, ◌+◌, ◌<◌, Bool, true, false, List, [], ◌∷◌, length, length-set, refl, sym, ap, subst, ◌∙◌, inl, inr, arith, get_or-set_same, get_or-set_other}
 use Rattle.std.specs.Prelude.{◌⊎◌, set}
 use Rattle.std.specs.List.{AllByRecursion}
@@ -141,7 +141,7 @@ module _ (b : Backing) (next : ℕ) (rows : List Row) (first : ℕ) (order : Lis
       let second : (p ≡ root → ⊥) = λ e. other (ap b.owner e ∙ own.owner) in
       reach-same b.serial b.owner b.fill closed.serial closed.owner closed.fill p refl (at-other b.serial root s p second) (at-other b.serial root s (b.owner p) other) (at-other b.fill root 0 p second)
 
-  -- A page whose owner is a region, but which is not in the region's chain of pages, has no live words.
+  -- A page whose owner is the first page of a region, but which is not in the region's chain of pages, has no live words.
   outside-none : (p : ℕ) → p < b.pages → (IsOneOf region.chain p → ⊥) → b.owner p ≡ root → reach_of b p ≡ 0
   outside-none p below never owner = elim (is.held p below) [
     | inl none ↦ none

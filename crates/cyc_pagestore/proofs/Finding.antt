@@ -32,7 +32,7 @@ use Rattle.cyc_pagestore.proofs.Cutting.{words-all}
 pub region-of : (v w : Stored) (h : ℕ) → v ≡ w → is_some (lookup handle_of w.blocks.regions h) ≡ true → (r : Home) × (lookup handle_of v.blocks.regions h ≡ Some r)
 region-of v w h same some = some_there (lookup handle_of v.blocks.regions h) (subst (λ (u : Stored). is_some (lookup handle_of u.blocks.regions h) ≡ true) (sym same) some)
 
--- A page with slots is not one of a region's pages after the first.
+-- A page that is split into slots for unique blocks does not have the role of a region's page after the first.
 rest-apart : (sort : Option Sort) (class : ℕ) → role_of sort (Some UNIQUE) class ≡ role.Rest → ⊥
 rest-apart None class e = cc
 rest-apart (Some Heap) class e = cc

@@ -15,13 +15,14 @@ use Rattle.cyc_pagestore.proofs.Backing.{with_at, at-same, at-other, rest-no_roo
 
 -- ---- writes to a page that no region contains
 
--- A taken page that belongs to no region has no live words, and owns no page with live words.
+-- A taken page that belongs to no region has no live words. No page with live words has the taken
+-- page as its owner (its region's first page).
 module _ (b : Backing) (next : ℕ) (row : ℕ → Row) (first : ℕ) (order : List ℕ) (is : Backs b next row first order) (page : ℕ) (there : page < b.pages)
     (rest : b.role page ≡ Rest) (taken : b.free page ≡ false) (alone : b.chain page ≡ page ∷ []) where
   pub away-order : IsOneOf order page → ⊥
   away-order which = never_true_and_false (is.free page which).1 taken
 
-  -- A page that was just taken owns no page with live words.
+  -- No page with live words has a page that was just taken as its owner (its region's first page).
   pub owns-none : (p : ℕ) → p < b.pages → b.owner p ≡ page → reach_of b p ≡ 0
   owns-none p below owner = elim (is.held p below) [
     | inl none ↦ none
@@ -36,7 +37,7 @@ module _ (b : Backing) (next : ℕ) (row : ℕ → Row) (first : ℕ) (order : L
       (all-from (λ p. (with_at row page new p).next ≡ (row p).next) order
       (λ p which. ap (λ (r : Row). r.next) (at-other row page new p (λ e. away-order (subst (IsOneOf order) e which))))) is.linked
 
-  -- No region contains the taken page, since the page is the head of its own chain.
+  -- No region contains the taken page, since the page begins a chain of pages of its own.
   pub member-away : (r : ℕ) (old : IsRegion b row r) → (r ≡ page → ⊥) → (p : ℕ) → IsOneOf old.chain p → p ≡ page → ⊥
   member-away r old away p which e =
       let empty : b.chain page ≡ [] = ap b.chain (sym e) ∙ (old.members p which).inner (λ same. away (sym same ∙ e)) in

@@ -1,4 +1,4 @@
--- In terms of lists, a pool and the data kept beside it represent a page table before and after each call of the table.
+-- In terms of lists, a pool with the table's data stored outside the pool represents a page table before and after each call of the table.
 use Rattle.std.proofs.Common.{◌≡◌, ℕ, ◌+◌, ◌*◌, ◌-◌, ◌^◌, ◌<◌, Bool, true, false, List, [], ◌∷◌, ◌++◌, length, set, length-set, refl, sym, ap, subst, ◌∙◌, inl, inr, arith, get_or-set_same, get_or-set_other}
 use Rattle.std.specs.Prelude.{◌⊎◌, slice_index, slice_index_or}
 use Rattle.std.proofs.lemmas.Bool.{cases_eq}

@@ -1,4 +1,4 @@
--- The live words of a page depend on serial numbers; the lemmas describe them after a field of one page is written.
+-- Lemmas about the number of live words of a page after a field of one page is written. The number depends on the serial numbers of pages.
 use Rattle.std.proofs.Common.{◌≡◌, ℕ, ap, ◌∙◌, inl, inr}
 use Rattle.std.specs.Prelude.{◌==◌, if◌then◌else◌}
 use Rattle.std.proofs.lemmas.Bool.{cases_eq, cond-true, cond-false, eq-eqb, ne_eqb}

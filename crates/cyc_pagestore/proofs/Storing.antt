@@ -30,7 +30,7 @@ given_rows-length : (rows : List Row) (page count free : ℕ) → length (given_
 given_rows-length rows page zero free = refl
 given_rows-length rows page (suc count) free = given_rows-length (set rows page (free_row free)) (row_at rows page).next count page ∙ length-set rows page (free_row free)
 
--- For every sort of region, the role of the region's first page is the heap's, a lexical region's or a dynamic region's.
+-- For every sort of region, the role of the region's first page is one of three: the heap's, a lexical region's or a dynamic region's.
 sort-root : (sort : Sort) → IsRoot (role_of_sort sort)
 sort-root Heap = inl refl
 sort-root Lexical = inr (inl refl)
@@ -54,11 +54,11 @@ module _ (x : TableState) (lexicals : List ℕ) (classes : List ClassSlots) (b :
   pub stored-held : store_of t.most t.words.items b ≡ store_of x.most x.words b
   stored-held = λ j. store_of (s.reads.most j) (s.reads.words j) b
 
-  -- The table has a row for each page.
+  -- The page table has a row for each page.
   pub rows-all : length t.rows.items ≡ x.most
   rows-all = ap length s.reads.rows ∙ s.whole
 
-  -- Reading the row of an existing page does not use the default value.
+  -- Looking up the row of an existing page in the page table never yields the default value for missing rows.
   pub row-read : (page : ℕ) → page < x.most → row_of x page ≡ slice_index_or t.rows.items page (row_of x page)
   row-read page there =
       get_or_default x.rows page (free_row NONE) (row_of x page) (subst (λ n. page < n) (sym s.whole) there)

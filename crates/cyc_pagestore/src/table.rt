@@ -13,7 +13,7 @@ use cyc_store::{NONE, PAGE_WORDS, Role};
 use std::alloc::{AllocError, Global};
 use std::marker::Model;
 
-/// The data that the table keeps for a page beside the pool.
+/// The data that the table stores for each page outside the pool.
 #[derive(Clone, Copy)]
 pub(crate) struct Spot {
     role: Role,
@@ -233,7 +233,7 @@ impl PoolTable {
         self.spots[root as usize].newest
     }
 
-    /// Returns the number of pages of the table.
+    /// Returns the number of pages of the page table.
     #[inline]
     pub(crate) fn most(&self) -> u32
         ensures { result ≡ self.now.most }

@@ -1,4 +1,4 @@
--- The parser's results are stated in terms of the grammar.
+-- The acceptance and the faults of the parser, which it computes from symbols, are stated in terms of the grammar and the text's tokens.
 use Rattle.std.proofs.Common.{◌≡◌, ◌⊎◌, ℕ, List, [], ◌∷◌, length, inl, inr, Result, Ok, Err, refl, sym, ap, subst, ◌∙◌}
 use Rattle.std.specs.Prelude.{IfOk, IfErr, MatchResult}
 use Rattle.std.proofs.lemmas.List.{length-map}

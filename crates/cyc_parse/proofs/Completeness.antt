@@ -1,4 +1,5 @@
--- COMPLETENESS: if symbols have a parse tree, the parser returns that tree, or it rejects them for the first limit that the tree breaks.
+-- COMPLETENESS: if symbols have a parse tree, the parser returns that tree, or it rejects them for the first limit (on nesting or list
+-- length) that the tree breaks.
 use Rattle.std.proofs.Common.{◌≡◌, ℕ, zero, suc, ◌≤◌, List, [], ◌∷◌, ◌++◌, length, Some, None, Ok, refl, sym, ap, subst, ◌∙◌, arith, length-append}
 use Rattle.cyc_syntax.specs.Symbols.{Symbol}
 use Rattle.cyc_syntax.specs.Trees.{Declaration, StructType, Exceptions, Global, Function, WrittenType, BaseType, Int, Char, Struct, Handle, Key}
@@ -10,7 +11,7 @@ use Rattle.cyc_parse.specs.inside.Declarations.{declaration, declarations_in, pr
 use Rattle.cyc_parse.proofs.Rules.{Front, judge, Reads, Always, front-length, then_reads, last_reads, pure_reads, reads_instead}
 use Rattle.cyc_parse.proofs.DeclarationReads.{all_declarations}
 
--- Holds if no symbols are left, so that the text ends.
+-- Holds if the list of symbols is empty, that is, if the text ends here.
 pub record IsEnd (ts : List Symbol) : Type 0 where
   pub end : ts ≡ []
 

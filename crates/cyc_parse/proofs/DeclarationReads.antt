@@ -75,7 +75,7 @@ constructors_read room d fits (c ∷ cs) = (constructor_read room d fits c, cons
 
 -- ---- parameters
 
--- Conditions on the symbols that may follow each part of a function's parameter list.
+-- Conditions on the symbols that may follow the parameters, the effect and the constraints in a function's parameter list.
 pub record EndsParameters (ts : List Symbol) : Type 0 where
   pub void : starts begins_void (next ts) ≡ false
   pub member : starts begins_type (next ts) ≡ false

@@ -1,4 +1,4 @@
--- Each production of expressions is parsed back from its yield if its parts are parsed back from theirs.
+-- Each production of expressions is parsed back from its yield if its subexpressions are parsed back from theirs.
 use Rattle.std.proofs.Common.{◌≡◌, ℕ, zero, suc, ◌+◌, ◌≤◌, true, false, List, [], ◌∷◌, ◌++◌, Some, None, Ok, refl, sym, ap, subst, ◌∙◌, arith}
 use Rattle.std.specs.List.{AllByRecursion}
 use Rattle.cyc_syntax.specs.declared.tokens.Keyword.TheVariants as words
@@ -46,7 +46,7 @@ arguments-list : (d : ℕ) (es : Expressions) → yields.arguments d es ≡ yiel
 arguments-list d NoExpressions = refl
 arguments-list d (MoreExpressions e es) = ap (λ (ys : Yield). yields.item_number 1 (yields.expression d e) ++ ys) (more-list d 2 es)
 
--- A comma may follow an item of a list of expressions, because it ends the expression.
+-- In a list of expressions a comma may follow an expression, because a comma cannot continue the expression.
 stops_comma : (ts : List Symbol) → next ts ≡ Some (Mark signs.Comma) → Stops 11 ts
 stops_comma [] e = absurd (cc)
 stops_comma (t ∷ ts) e = stops_leaf 11 (leaf_of 0 (Mark signs.Comma)) [] (t ∷ ts) ts refl (omega arith) (t, ts, refl, record { terminal = from_some; place = tt }, refl)
@@ -54,7 +54,7 @@ stops_comma (t ∷ ts) e = stops_leaf 11 (leaf_of 0 (Mark signs.Comma)) [] (t �
     from_some : t.terminal ≡ Mark signs.Comma
     from_some = cc
 
--- Says that each expression of a list is parsed back by the parser one nesting level deeper.
+-- Says that each expression of a list is parsed back from its yield by the parser one nesting level deeper.
 abbrev pub AreRead : ℕ → ℕ → List Expression → Type 0
 AreRead room d es = AllByRecursion (λ e. ReadsDeeper room d e) es
 
@@ -62,7 +62,7 @@ are_read : (room d : ℕ) (es : List Expression) → AreRead room d es → AllBy
 are_read room d [] all = all
 are_read room d (e ∷ es) (one, all) = (record { starts = expression_starts d e; reads = one }, are_read room d es all)
 
--- The closing parenthesis of a call ends its list of arguments.
+-- In the list of a call's arguments, the closing parenthesis is a symbol that ends the list.
 before_paren : (d : ℕ) (mid rest : List Symbol) → Front (leaf_of d (Mark signs.RightParen) ∷ []) mid rest → EndsList (Stops 11) mid
 before_paren d mid rest front = record { item = stops_leaf 11 (leaf_of d (Mark signs.RightParen)) [] mid rest refl (omega arith) front; comma = ap (sees_terminal signs.Comma) (front-next (leaf_of d (Mark signs.RightParen)) [] mid rest front) }
 
@@ -99,7 +99,7 @@ arguments_reads room d fits (MoreExpressions e es) all =
 pub record NoParen (ts : List Symbol) : Type 0 where
   pub paren : sees signs.LeftParen ts ≡ false
 
--- Says that the inner expressions of an operand are parsed back by the parsers one nesting level deeper.
+-- Says that the expressions inside an operand are parsed back from their yields by the parsers one nesting level deeper.
 abbrev pub Parts : ℕ → ℕ → Expression → Type 0
 Parts room d (Call f es) = AreRead room (suc d) (list_of es)
 Parts room d (Bracketed p e) = ReadsDeeper room (suc d) e

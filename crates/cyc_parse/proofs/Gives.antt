@@ -1,6 +1,6 @@
 -- If a parser succeeds, it has read symbols that a yield spells and whose leaves keep the limits. If a parser rejects a symbol for a
--- limit, it has read the first symbols of a yield, up to the rejected symbol. This file contains the rules for composed parsers by which
--- both facts, on yields and on first symbols, follow.
+-- limit, then the symbols up to the rejected one begin the yield of some result. This file contains the rules for composed parsers by
+-- which both facts follow.
 use Rattle.std.proofs.Common.{◌≡◌, ℕ, ◌≤◌, Bool, true, false, List, [], ◌∷◌, ◌++◌, Option, Some, None, Ok, Err, refl, sym, ap, subst, ◌∙◌, append_assoc}
 use Rattle.std.specs.Option.{IfSome}
 use Rattle.std.specs.List.{AllByRecursion}
@@ -14,7 +14,8 @@ use Rattle.cyc_parse.proofs.Rules.{Front, leaf_at}
 use Rattle.cyc_parse.proofs.Locality.{left_of, one_refusal}
 use Rattle.cyc_parse.proofs.LocalExpressions.{was_read}
 
--- Says that the symbols begin with a yield that keeps the limits and satisfies `Post`.
+-- Says that the symbols begin with the yield of a tree, which keeps the limits on nesting and list
+-- length and satisfies the condition `Post`.
 pub record Derived (ts rest : List Symbol) (Post : Yield → Type 0) : Type 0 where
   pub leaves : Yield
   pub front : Front leaves ts rest
@@ -31,7 +32,7 @@ pub record Begins (leaves : Yield) (ts left : List Symbol) : Type 0 where
   pub left_are : left ≡ symbol ∷ back
   pub front : Front done ts back
 
--- Says that some result satisfies `Post` with no symbol left after it.
+-- Says that a result exists that satisfies the condition `Post` if no symbol is left after it.
 pub record Possible {A : Type 0} (Post : A → Yield → List Symbol → Type 0) : Type 0 where
   pub value : A
   pub leaves : Yield
@@ -40,7 +41,8 @@ pub record Possible {A : Type 0} (Post : A → Yield → List Symbol → Type 0)
 pub possibly : {A : Type 0} {Post : A → Yield → List Symbol → Type 0} (x : A) (ls : Yield) → Post x ls [] → Possible Post
 possibly x ls post = record { value = x; leaves = ls; post = post }
 
--- Says that some result satisfies `Post`, and its yield begins with a symbol of the given terminal and source position.
+-- Says that a result exists that satisfies the condition `Post` and whose yield begins with a symbol of the given
+-- terminal and source position.
 pub record Opened {A : Type 0} (Post : A → Yield → List Symbol → Type 0) (u : Terminal) (p : Place) : Type 0 where
   pub value : A
   pub leaf : Leaf
@@ -49,7 +51,8 @@ pub record Opened {A : Type 0} (Post : A → Yield → List Symbol → Type 0) (
   pub place : IfSome leaf.place (λ q. p ≡ q)
   pub post : Post value (leaf ∷ following) []
 
--- Says that some result satisfies `Post`, and its yield begins with the symbols that were read, up to the rejected one.
+-- Says that a result exists that satisfies the condition `Post` and whose yield begins with the symbols that were read,
+-- up to the rejected one.
 pub record Completed {A : Type 0} (Post : A → Yield → List Symbol → Type 0) (ts left : List Symbol) : Type 0 where
   pub value : A
   pub leaves : Yield
@@ -61,15 +64,16 @@ IsLimit Unexpected = ⊥
 IsLimit TooDeep = Unit {0}
 IsLimit TooLong = Unit {0}
 
--- Says that each result of a parser on the given symbols satisfies `Post`, which relates the value, the symbols read and the symbols
--- left. If a limit rejects a symbol, the symbols up to the rejected one begin some result that satisfies `Post`.
+-- Says that each result of a parser on the given symbols satisfies the condition `Post`, which relates the value, the symbols read and the
+-- symbols left. If a limit rejects a symbol, the symbols up to the rejected one begin some result that satisfies the condition `Post`.
 pub record Gives {A : Type 0} (p : Parser A) (Post : A → Yield → List Symbol → Type 0) (ts : List Symbol) : Type 0 where
   pub gives : (rest : List Symbol) (x : A) → p ts ≡ Ok (x, rest) → Derived ts rest (λ ls. Post x ls rest)
   pub goes : (e : Refusal) → p ts ≡ Err e → IsLimit e.reason → Completed Post ts e.left
-  -- If no symbols are left, some result satisfies `Post`.
+  -- If the parser's input has no symbols, then a result exists that satisfies the condition `Post`.
   pub ending : ts ≡ [] → Possible Post
 
--- Says that leaves read before, followed by the symbols read, are the yield of the result, and that the result satisfies a condition.
+-- Says that the leaves read earlier, followed by the symbols read now, are the yield of the parser's result, and that the result
+-- satisfies the given condition.
 abbrev pub Follows : {A : Type 0} → Yield → (A → Yield) → (A → List Symbol → Type 0) → A → Yield → List Symbol → Type 0
 Follows before yield Is x ls rest = (before ++ ls ≡ yield x) × Is x rest
 
@@ -137,7 +141,7 @@ no_limit left e h limit = absurd (subst IsLimit (sym (ap (λ (r : Refusal). r.re
 pub no_refusal : {P : Type 0} {A : Type 0} {e : Refusal} {r : A × List Symbol} → ◌≡◌ {A = Outcome A} (Ok r) (Err e) → P
 no_refusal h = absurd (cc)
 
--- If a composed parser rejects its input, then either its first part rejects it or its second part does.
+-- If a sequence of two parsers rejects its input, then either the first parser rejects it, or the second rejects what the first leaves.
 pub data WasRefused {A B : Type 0} (p : Parser A) (f : A → Parser B) (ts : List Symbol) (e : Refusal) : Type 0 where
   in_first : p ts ≡ Err e → WasRefused p f ts e
   in_second : (x : A) (mid : List Symbol) → p ts ≡ Ok (x, mid) → f x mid ≡ Err e → WasRefused p f ts e
@@ -182,7 +186,8 @@ part_then {p = p} {f = f} {Q = Q} {ts = ts} first second = record {
         let b = (second x a.leaves mid a.post).goes e k limit in
         record { value = b.value; leaves = a.leaves ++ b.leaves; begins = begins_after a.leaves a.front b.begins; post = b.post }
 
--- `Gives` holds for a sequence of parsers if the result of the first parser determines the symbols that this parser read.
+-- The soundness statement `Gives` holds for a sequence of parsers if the result of the first parser determines the
+-- symbols that this parser read.
 pub spelled_then : {A B : Type 0} {p : Parser A} {f : A → Parser B} {yield : A → Yield} {Is : A → List Symbol → Type 0} {Q : B → Yield → List Symbol → Type 0} {ts : List Symbol}
     → Gives p (Spells yield Is) ts → ((x : A) (mid : List Symbol) → Is x mid → Gives (f x) (λ y ys rest. Q y (yield x ++ ys) rest) mid) → Gives (bind p f) Q ts
 spelled_then {f = f} {yield = yield} {Q = Q} first second =
@@ -192,7 +197,7 @@ abbrev pub answer_of : {A : Type 0} → A → Outcome A → A
 answer_of other (Ok q) = q.0
 answer_of other (Err e) = other
 
--- `Gives` holds for a parser whose result becomes a node of the tree.
+-- The soundness statement `Gives` holds for a parser whose result becomes a node of the tree.
 pub last_then : {A B : Type 0} {p : Parser A} (make : A → B) {yield : A → Yield} {Is : A → List Symbol → Type 0} {Q : B → Yield → List Symbol → Type 0} {ts : List Symbol}
     → Gives p (Spells yield Is) ts → ((x : A) (rest : List Symbol) → Is x rest → Q (make x) (yield x) rest) → Gives (bind p (λ x. pure (make x))) Q ts
 last_then {A} {B} {p = p} make {yield = yield} {Is = Is} {Q = Q} {ts = ts} first post = record {
@@ -234,7 +239,7 @@ pure_gives {A} {Q = Q} {ts = ts} {x = x} post = record {
 
 -- ---- parsers that reject
 
--- `Gives` holds for a parser that rejects the next symbol as unexpected.
+-- The soundness statement `Gives` holds for a parser that rejects the next symbol as unexpected.
 pub unexpected_gives : {A : Type 0} {Q : A → Yield → List Symbol → Type 0} {ts : List Symbol} → Possible Q → Gives (refuse {A = A} Unexpected) Q ts
 unexpected_gives {ts = ts} possible = record { gives = λ rest y h. absurd (cc); goes = λ e h limit. no_limit ts e h limit; ending = λ none. possible }
 
@@ -257,7 +262,8 @@ completed_here : {A : Type 0} {Q : A → Yield → List Symbol → Type 0} (t : 
 completed_here t more left same o =
     record { value = o.value; leaves = o.leaf ∷ o.following; begins = begins_here o.leaf o.following t more left o.terminal o.place same; post = o.post }
 
--- `Gives` holds for a parser that rejects the next symbol because of a limit, if some result begins with that symbol.
+-- The soundness statement `Gives` holds for a parser that rejects the next symbol because of a limit, if the yield of
+-- some result begins with that symbol.
 pub limit_gives : {A : Type 0} {Q : A → Yield → List Symbol → Type 0} {ts : List Symbol} (why : Reason) (u : Terminal) → next ts ≡ Some u → ((p : Place) → Opened Q u p) → Gives (refuse {A = A} why) Q ts
 limit_gives {A} {Q = Q} {ts = ts} why u comes opened = record {
   gives = λ rest y h. absurd (cc);
@@ -272,7 +278,8 @@ limit_gives {A} {Q = Q} {ts = ts} why u comes opened = record {
     start [] e is same = absurd (nothing is)
     start (t ∷ more) e is same = let terminal : t.terminal ≡ u = cc in completed_here t more e.left (sym same) (subst (λ (w : Terminal). Opened Q w t.place) (sym terminal) (opened t.place))
 
--- `Gives` holds for a parser that rejects a list element because of a limit, if every symbol that may begin an element begins some result.
+-- The soundness statement `Gives` holds for a parser that rejects a list element because of a limit, if every symbol that may begin an
+-- element begins the yield of some result.
 pub begun_gives : {A : Type 0} {Q : A → Yield → List Symbol → Type 0} {ts : List Symbol} (begins : Terminal → Bool) (why : Reason) → starts begins (next ts) ≡ true
     → ((u : Terminal) (p : Place) → begins u ≡ true → Opened Q u p) → Gives (refuse {A = A} why) Q ts
 begun_gives {A} {Q = Q} {ts = ts} begins why comes opened = go (next ts) refl comes
@@ -301,7 +308,7 @@ item_refusal_gives {A} {Q = Q} {ts = ts} begins why possible opened = record {
 
 -- ---- weakening and rewriting of facts
 
--- In `Gives`, a condition on results may be replaced by a condition that it implies.
+-- In the soundness statement `Gives`, a condition on results may be replaced by a condition that it implies.
 pub gives_as : {A : Type 0} {p : Parser A} {P Q : A → Yield → List Symbol → Type 0} {ts : List Symbol} → ((x : A) (ls : Yield) (rest : List Symbol) → P x ls rest → Q x ls rest) → Gives p P ts → Gives p Q ts
 gives_as weaker h = record {
   gives = λ rest x e. let a = h.gives rest x e in record { leaves = a.leaves; front = a.front; within = a.within; post = weaker x a.leaves rest a.post };
@@ -309,7 +316,7 @@ gives_as weaker h = record {
   ending = λ none. let a = h.ending none in record { value = a.value; leaves = a.leaves; post = weaker a.value a.leaves [] a.post };
 }
 
--- In `Gives`, a parser may be replaced by one that returns an equal result on the given symbols.
+-- In the soundness statement `Gives`, a parser may be replaced by one that returns an equal result on the given symbols.
 pub gives_instead : {A : Type 0} {p : Parser A} (q : Parser A) {Q : A → Yield → List Symbol → Type 0} {ts : List Symbol} → p ts ≡ q ts → Gives q Q ts → Gives p Q ts
 gives_instead q same h = record { gives = λ rest x e. h.gives rest x (sym same ∙ e); goes = λ e is limit. h.goes e (sym same ∙ is) limit; ending = h.ending }
 
@@ -346,14 +353,16 @@ item_gives {yield = yield} i few h = record {
 pub opened_at : {A : Type 0} {Q : A → Yield → List Symbol → Type 0} (d : ℕ) (u : Terminal) (p : Place) (x : A) (following : Yield) → Q x (leaf_at d u p ∷ following) [] → Opened Q u p
 opened_at d u p x following post = record { value = x; leaf = leaf_at d u p; following = following; terminal = refl; place = refl; post = post }
 
--- A result witnesses `Opened` if its first leaf has no stored source position and has a given index in its list.
+-- A result proves `Opened` (some result begins with the given symbol) if its first leaf is this symbol. The leaf
+-- has no stored source position and has a given index in its list.
 pub opened_item : {A : Type 0} {Q : A → Yield → List Symbol → Type 0} (d i : ℕ) (u : Terminal) (p : Place) (x : A) (following : Yield) → Q x (record { terminal = u; place = None; nesting = d; item = i } ∷ following) [] → Opened Q u p
 opened_item d i u p x following post = record { value = x; leaf = record { terminal = u; place = None; nesting = d; item = i }; following = following; terminal = refl; place = tt; post = post }
 
 pub numbered : {A : Type 0} {yield : A → Yield} {Is : A → List Symbol → Type 0} {u : Terminal} {p : Place} (i : ℕ) → Opened (Spells yield Is) u p → Opened (Spells (λ x. item_number i (yield x)) Is) u p
 numbered i o = record { value = o.value; leaf = record o.leaf { item = i }; following = o.following; terminal = o.terminal; place = o.place; post = (ap (item_number i) o.post.0, o.post.1) }
 
--- `Opened` holds for a sequence whose first part has a yield that begins with the symbol.
+-- `Opened` (some result begins with the given symbol) holds for a sequence of two parsers if it holds for the first, and the second has
+-- some result after it.
 pub opened_then : {A B : Type 0} {yield : A → Yield} {Is : A → List Symbol → Type 0} {Q : B → Yield → List Symbol → Type 0} {u : Terminal} {p : Place}
     → Opened (Spells yield Is) u p → ((x : A) → Is x [] → Possible (λ y ys rest. Q y (yield x ++ ys) rest)) → Opened Q u p
 opened_then {Q = Q} o more =

@@ -139,7 +139,8 @@ module _ (room d : ℕ) (fits : Fits (suc room) d) (shallow : suc d ≤ max_nest
   struct_fields_give s rs ts = sign_then (suc room) d signs.LeftBrace fits (λ _ mid. spelled_then (some_of_gives begins_type (field room) (yields.field (suc d)) (field_gives room (suc d) deeper shallow) (field_opened (suc d)) mid) (λ fs mid some.
       sign_then room (suc d) signs.RightBrace deeper (λ _ mid. sign_then (suc room) d signs.Semicolon fits (λ _ mid. pure_gives (refl, some)))))
 
-  -- `Gives` holds for a parser that begins with `struct`; a type stores the source position of `struct`, and a struct declaration does not.
+  -- The soundness statement `Gives` holds for a parser that begins with `struct`; a type stores the source position of `struct`, and a
+  -- struct declaration does not.
   struct_then : {C : Type 0} {f : Place → Parser C} {Q : C → Yield → List Symbol → Type 0} {ts : List Symbol} → next ts ≡ Some (Word words.Struct)
       → ((q : Place) (mid : List Symbol) → Gives (f q) (λ y ys rest. Q y (leaf_at d (Word words.Struct) q ∷ ys) rest ⊎ Q y (leaf_of d (Word words.Struct) ∷ ys) rest) mid) → Gives (bind advance f) Q ts
   unfolding bind

@@ -167,7 +167,7 @@ module _ (room d : ℕ) (inner : Nested) (fits : Fits (suc room) d) (h : NestedG
   with_postfixes_give before first ts k = part_then k (λ e xs mid (eq, (prim, is)). last_then (chained e) (postfixes_give max_items 1 refl mid)
       (λ ps rest are. (sym (append_assoc before xs (yields.postfixes d 1 ps)) ∙ ap (λ (zs : Yield). zs ++ yields.postfixes d 1 ps) eq ∙ chained_yield e ps, chained_is e ps prim is are)))
 
-  -- `Gives` holds for the parser of an operand that begins with a given name.
+  -- The soundness statement `Gives` holds for the parser of an operand that begins with a given name.
   named_gives : (x : Named) (ts : List Symbol) → Gives (with_postfixes room inner (from_name room inner x)) (Follows (leaf_at d (Identifier x.name) x.place ∷ []) (yields.expression d) (Level 0)) ts
   named_gives x ts = with_postfixes_give (leaf_at d (Identifier x.name) x.place ∷ []) (from_name room inner x) ts (from_name_gives x ts)
 
@@ -194,7 +194,7 @@ module _ (room d : ℕ) (inner : Nested) (fits : Fits (suc room) d) (h : NestedG
   climbed_gives : (e : Expression) → IsExpression 0 e → (ts : List Symbol) → Gives (climb (unary room inner) 10 e) (Follows (yields.expression d e) (yields.expression d) (Level 10)) ts
   climbed_gives e is ts = climb_gives d shallow (unary room inner) unary_gives 10 (omega arith) e is ts
 
-  -- `Gives` holds for the parser of operator chains that begin with a given name.
+  -- The soundness statement `Gives` holds for the parser of chains of binary operators that begin with a given name.
   pub named_climb_gives : (x : Named) (ts : List Symbol) → Gives (bind (with_postfixes room inner (from_name room inner x)) (climb (unary room inner) 10)) (Follows (leaf_at d (Identifier x.name) x.place ∷ []) (yields.expression d) (Level 10)) ts
   named_climb_gives x ts = part_then (named_gives x ts) (λ e xs mid (eq, is). gives_as (λ y ys rest (e', is'). (ap (λ (zs : Yield). zs ++ ys) eq ∙ e', is')) (climbed_gives e is mid))
 

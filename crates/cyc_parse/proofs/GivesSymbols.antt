@@ -1,4 +1,5 @@
--- The parsers of one symbol satisfy `Gives` for the symbol's leaf, and so do the parsers that decide by the next symbol.
+-- The parsers of one symbol satisfy the soundness statement `Gives` for the symbol's leaf, and so do the parsers that
+-- decide by the next symbol.
 use Rattle.std.proofs.Common.{◌≡◌, ℕ, zero, suc, ◌≤◌, Bool, true, false, cond, List, [], ◌∷◌, Option, Some, None, is_some, Ok, Err, refl, sym, ap, subst, ◌∙◌, arith, rules}
 use Rattle.std.specs.Option.{IfSome}
 use Rattle.std.specs.Prelude.{if◌then◌else◌}
@@ -36,7 +37,8 @@ too_deep (suc r) (Some a) give t ts e h limit = no_refusal h
 pub some_place : Place
 some_place = record { line = 1; column = 1 }
 
--- `Gives` holds for the parser of one symbol followed by another parser; the symbol's leaf is computed from its value and position.
+-- The soundness statement `Gives` holds for the parser of one symbol followed by another parser; the symbol's leaf is computed from
+-- its value and position.
 pub take_then : {A B C : Type 0} (room : ℕ) (reads : Terminal → Option A) (give : A → Place → B) (f : B → Parser C) {Q : C → Yield → List Symbol → Type 0} {ts : List Symbol} (some : A) (leaf : A → Place → Leaf)
     → ((a : A) (q : Place) → Fits room (leaf a q).nesting) → ((a : A) (q : Place) → (leaf a q).item ≤ max_items)
     → ((a : A) (u : Terminal) (q : Place) → reads u ≡ Some a → u ≡ (leaf a q).terminal) → ((a : A) (q : Place) → IfSome (leaf a q).place (λ p. q ≡ p))
@@ -153,7 +155,8 @@ region_terminal (Word k) a h = absurd (cc)
 region_terminal (Mark s) a h = absurd (cc)
 
 module _ {C : Type 0} {Q : C → Yield → List Symbol → Type 0} {ts : List Symbol} (room d : ℕ) where
-  -- `Gives` holds for the parser of a sign (punctuation token) that is the element with a given index in its list or chain.
+  -- The soundness statement `Gives` holds for the parser of a sign (punctuation token) that is the element with a given
+  -- index in its list or chain.
   pub sign_item_then : (i : ℕ) (s : Sign) {f : Place → Parser C} → Fits room d → i ≤ max_items
       → ((q : Place) (mid : List Symbol) → Gives (f q) (λ y ys rest. Q y (record { terminal = Mark s; place = None; nesting = d; item = i } ∷ ys) rest) mid) → Gives (bind (sign room s) f) Q ts
   sign_item_then i s fits few second = take_then room (is_sign s) only_place _ tt (λ _ _. record { terminal = Mark s; place = None; nesting = d; item = i }) (λ _ _. fits) (λ _ _. few) (λ a u _ e. sign_is s u a e) (λ _ _. tt) (λ _ q mid. second q mid)
@@ -186,7 +189,7 @@ stuck_word d k f possible = stuck_then (is_word k) only_place f (leaf_of d (Word
 
 -- ---- decisions by the next symbol
 
--- `Gives` holds for a parser that reads the next symbol as a given leaf.
+-- The soundness statement `Gives` holds for a parser that reads the next symbol as a given leaf.
 pub advance_leaf_then : {C : Type 0} {f : Place → Parser C} {Q : C → Yield → List Symbol → Type 0} {ts : List Symbol} (leaf : Place → Leaf) (u : Terminal) → next ts ≡ Some u
     → ((q : Place) → (leaf q).terminal ≡ u) → ((q : Place) → (leaf q).nesting ≤ max_nesting) → ((q : Place) → (leaf q).item ≤ max_items) → ((q : Place) → IfSome (leaf q).place (λ p. q ≡ p))
     → ((q : Place) (mid : List Symbol) → Gives (f q) (λ y ys rest. Q y (leaf q ∷ ys) rest) mid) → Gives (bind advance f) Q ts
@@ -223,7 +226,7 @@ pub advance_then : {C : Type 0} {f : Place → Parser C} {Q : C → Yield → Li
     → ((q : Place) (mid : List Symbol) → Gives (f q) (λ y ys rest. Q y (leaf_at d u q ∷ ys) rest) mid) → Gives (bind advance f) Q ts
 advance_then d u comes shallow second = advance_leaf_then (λ q. leaf_at d u q) u comes (λ _. refl) (λ _. shallow) (λ _. omega arith) (λ _. refl) second
 
--- `Gives` holds for a parser that reads the next symbol as a leaf without a stored source position.
+-- The soundness statement `Gives` holds for a parser that reads the next symbol as a leaf without a stored source position.
 pub advance_bare_then : {C : Type 0} {f : Place → Parser C} {Q : C → Yield → List Symbol → Type 0} {ts : List Symbol} (d : ℕ) (u : Terminal) → next ts ≡ Some u → d ≤ max_nesting
     → ((q : Place) (mid : List Symbol) → Gives (f q) (λ y ys rest. Q y (leaf_of d u ∷ ys) rest) mid) → Gives (bind advance f) Q ts
 advance_bare_then d u comes shallow second = advance_leaf_then (λ q. leaf_of d u) u comes (λ _. refl) (λ _. shallow) (λ _. omega arith) (λ _. tt) second
@@ -255,7 +258,7 @@ is_gives {A} reads {f = f} {q = q} {Q = Q} {ts = ts} h k = gives_instead (on_som
     go None e = k
     go (Some x) e = h x e
 
--- `Gives` holds for a parser if it holds for the parser followed by returning the result unchanged.
+-- The soundness statement `Gives` holds for a parser if it holds for the parser followed by returning the result unchanged.
 pub bare_gives : {A : Type 0} {p : Parser A} {Q : A → Yield → List Symbol → Type 0} {ts : List Symbol} → Gives (bind p (λ x. pure x)) Q ts → Gives p Q ts
 unfolding bind
 bare_gives {A} {p = p} {ts = ts} h = gives_instead (bind p (λ x. pure x)) (same (p ts)) h
@@ -264,7 +267,7 @@ bare_gives {A} {p = p} {ts = ts} h = gives_instead (bind p (λ x. pure x)) (same
     same (Ok q) = refl
     same (Err e) = refl
 
--- `Gives` holds for a test that rejects the next sign (punctuation token) because of a limit.
+-- The soundness statement `Gives` holds for a test that rejects the next sign (punctuation token) because of a limit.
 pub sees_limit_gives : {A : Type 0} (s : Sign) (why : Reason) {q : Parser A} {Q : A → Yield → List Symbol → Type 0} {ts : List Symbol} → ((p : Place) → Opened Q (Mark s) p) → Gives q Q ts → Gives (if_sees s (refuse why) q) Q ts
 unfolding if_sees
 sees_limit_gives s why {ts = ts} opened k = test_gives (sees s) (λ e. limit_gives why (Mark s) (seen (next ts) e) opened) (λ _. k)

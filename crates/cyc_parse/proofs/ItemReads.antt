@@ -23,7 +23,7 @@ use Rattle.cyc_parse.proofs.StatementStarts.{statement_starts, statement_char_op
 use Rattle.cyc_parse.proofs.StatementReads.{EndsStatement, EndsBlock, EndsClauses, expression_at, ReadsStatement, ReadsItems, body_reads, block_reads, labelled_reads, empty_reads}
 use Rattle.cyc_parse.proofs.StatementReads.{evaluate_reads, swap_reads, if_reads, if_else_reads, while_reads, return_reads, break_reads, continue_reads, throw_reads, try_reads}
 
--- Conditions on the symbols that may follow an item of a block.
+-- Conditions on the symbols that may follow a declaration or statement of a block.
 abbrev pub EndsItem : Item → List Symbol → Type 0
 EndsItem (Execute s) = EndsStatement (wants_else s)
 EndsItem (Local t x v) = Always
@@ -187,7 +187,7 @@ item_count-length : (d : ℕ) (is : Items) → item_count is ≤ length (yields.
 item_count-length d NoItems = omega arith
 item_count-length d (MoreItems i is) = omega (arith, item_count-length d is, item-length d i, length-append (yields.item d i) (yields.items d is))
 
--- An item of a block is parsed back from its yield.
+-- A declaration or statement of a block is parsed back from its yield.
 pub record ReadsItem (room d : ℕ) (i : Item) : Type 0 where
   pub reads : Reads (item room (nested_statements room)) i (yields.item d i) (EndsItem i)
 

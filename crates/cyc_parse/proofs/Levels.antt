@@ -1,4 +1,4 @@
--- Facts about the parsers at a nesting level or an operator level that is not the last.
+-- Facts about the parsers at a nesting level or a precedence level that is not the last.
 use Rattle.std.proofs.Common.{◌≡◌, ℕ, zero, suc, ◌+◌, ◌-◌, ◌<◌, ◌≤◌, Bool, true, false, ◌&&◌, cond, inl, inr, List, [], ◌∷◌, map, length, Option, None, Some, Ok, Err, refl, sym, ap, ◌∙◌, arith}
 use Rattle.std.proofs.lemmas.Bool.{leb-true, le-leb, ltb-true, lt-ltb, ne_eqb}
 use Rattle.std.proofs.lemmas.Bool.Decides.{eqb_tells}
@@ -47,7 +47,8 @@ pub operator_comes : (k : ℕ) (t : Option Terminal) (o : BinaryOperator) → So
 operator_comes k None o h = absurd (cc)
 operator_comes k (Some t) o h = refl
 
--- An operator above the permitted levels belongs to none of the levels that the parser skips.
+-- If an operator's precedence level is not among the permitted levels, then the operator belongs to
+-- none of the levels that the parser skips.
 
 operator_beyond : (o : Option BinaryOperator) (below most k : ℕ) → level_within below most o ≡ None → below < k → k ≤ most → of_level k o ≡ None
 operator_beyond None below most k none lt le = refl
@@ -86,7 +87,7 @@ no_more_operators operand k zero ts none = rw none refl
 no_more_operators operand k (suc left) ts none = rw none refl
 
 module _ (unary : Parser Expression) where
-  -- Parses the operators of the next level, followed by those of all levels up to the last.
+  -- Extends an operand by the operators of the next precedence level, and then by those of all looser levels up to the last.
   abbrev chain : ℕ → ℕ → Expression → Parser Expression
   chain below most e = bind (operations (bind unary (climb unary below)) (suc below) max_items) (λ os. climb_from unary (below + 1) (most - (below + 1)) (binary_of e os))
 
@@ -174,5 +175,5 @@ pub no_operations : (os : List Operation) → length os ≡ 0 → operations_of 
 no_operations [] h = refl
 no_operations (o ∷ os) h = absurd (omega arith)
 
--- The rules that the proofs about the expression parser's functions cite.
+-- The rewriting rules that the proofs about the functions of the expression parser use.
 pub ruleset levels = (nested_unary, nested_binary, nested_expression, nested_group, nested_initial, climb_all, climb_ends, climb_goes, chain_of_view, chained_view, no_postfixes, binary_view, no_operations)

@@ -38,7 +38,7 @@ pub mod LocalTypes
 pub mod LocalExpressions
 pub mod LocalStatements
 pub mod LocalDeclarations
--- Lemmas about the parser's loops and its levels of nesting.
+-- Lemmas about the loops of the parser, and about its nesting levels and precedence levels.
 pub mod Loops
 pub mod Rounds
 pub mod NextItems

@@ -1,4 +1,4 @@
--- Lists separated by commas are parsed back from their yields, up to the maximal number of items.
+-- Lists separated by commas are parsed back from their yields, up to the maximal number of elements.
 use Rattle.std.proofs.Common.{◌≡◌, ℕ, zero, suc, ◌+◌, ◌≤◌, ◌<◌, Bool, false, List, [], ◌∷◌, ◌++◌, Some, Ok, Err, refl, sym, ap, subst, ◌∙◌, arith}
 use Rattle.std.specs.List.{AllByRecursion}
 use Rattle.cyc_words.proofs.Numbers.{lt-nat_lt, le-nat_lt}
@@ -15,7 +15,7 @@ judge-long : {A : Type 0} (leaf : Leaf) (i : ℕ) (ys : Yield) (t : Symbol) (ts 
     → judge (record leaf { item = i } ∷ ys) (t ∷ ts) outcome ≡ Err (record { reason = TooLong; left = t ∷ ts })
 judge-long leaf i ys t ts outcome shallow many = rw (le-nat_lt max_nesting leaf.nesting shallow, lt-nat_lt max_items i many) refl
 
--- An item beyond the maximal number of its list is rejected.
+-- An element beyond the maximal length of its list is rejected.
 pub long_reads : {A : Type 0} (begins : Terminal → Bool) (d i : ℕ) (xs ys : Yield) {x : A} {Ends : List Symbol → Type 0} → d ≤ max_nesting → max_items < i → Starts begins d xs
     → Reads (refuse_item begins TooLong) x (item_number i xs ++ ys) Ends
 long_reads begins d i xs ys {x = x} {Ends = Ends} shallow many s = subst (λ (zs : Yield). Reads (refuse_item begins TooLong) x (item_number i zs ++ ys) Ends) (sym s.are) (record {
@@ -24,7 +24,7 @@ long_reads begins d i xs ys {x = x} {Ends = Ends} shallow many s = subst (λ (zs
       (refuse_item-is begins TooLong t more (ap begins is_leaf.terminal ∙ s.begin) ∙ sym (judge-long s.first i (s.others ++ ys) t more (Ok (x, rest)) (omega arith) many));
 })
 
--- Says that each item of a list is parsed back by the parser of items.
+-- Says that each element of a list is parsed back from its yield by the parser of elements.
 pub record IsRead {A : Type 0} (d : ℕ) (begins : Terminal → Bool) (item : Parser A) (yield : A → Yield) (Ends : List Symbol → Type 0) (x : A) : Type 0 where
   pub starts : Starts begins d (yield x)
   pub reads : Reads item x (yield x) Ends

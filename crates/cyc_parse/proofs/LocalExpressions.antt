@@ -46,8 +46,8 @@ module _ {c : Bool} (operand : Parser Expression) (h : Runs c Anything operand) 
   one_more left more tolerates None t a b less differ = opens NoOperations t refl tt less differ
   one_more left more tolerates (Some o) t a b less differ = beyond_suffix _ ((operand_runs left more tolerates o t.place).suffix a)
 
-  -- Says that chains with a given number of operators have bounded lookahead. They may also follow
-  -- a result after which `<` may open region arguments.
+  -- Says that chains of binary operators with a given number of operators have bounded lookahead.
+  -- They may also follow a result after which `<` may open region arguments.
   record Chains (left : ℕ) : Type 0 where
     runs : Runs false Anything (operations operand k left)
     tolerates : Tolerates Anything (operations operand k left)
@@ -74,7 +74,7 @@ module _ {c : Bool} (unary : Parser Expression) (h : Runs c Anything unary) wher
     pub runs : (e : Expression) → Runs false Anything (climb unary k e)
     pub tolerates : (e : Expression) → Tolerates Anything (climb unary k e)
 
-  -- An operand of the next operator level has bounded lookahead.
+  -- An operand of the next precedence level has bounded lookahead.
   operand_climbs : (k : ℕ) → Climbs k → Runs c Anything (bind unary (climb unary k))
   operand_climbs k below = open_then_runs h (λ e. below.runs e) (λ e _. below.tolerates e)
 
@@ -104,7 +104,7 @@ NoLess ts = next ts ≡ Some (Mark signs.Less) → ⊥
 abbrev pub Halts : {A : Type 0} → Parser A → Type 0
 Halts {A} p = (ts rest : List Symbol) (x : A) → p ts ≡ Ok (x, rest) → NoLess rest
 
--- Says that a sequence of two parsers read its symbols in two parts: the first parser's, then the second's.
+-- Says that a sequence of two parsers read its symbols in two successive portions: the first parser's symbols, then the second's.
 pub record WasRead {A B : Type 0} (p : Parser A) (f : A → Parser B) (ts rest : List Symbol) (y : B) : Type 0 where
   pub value : A
   pub mid : List Symbol
@@ -129,7 +129,8 @@ halts_made p make ts rest y h e =
     let same : w.mid ≡ rest = ap left_of w.second in
     h w.value (subst (λ (s : List Symbol). p ts ≡ Ok (w.value, s)) same w.first)
 
--- `Ready` holds for symbols before an operator if they do not begin with `<`, except where `<` is an operator of the current level.
+-- The condition `Ready` on the symbols left after an operand implies that they do not begin with `<`, except where `<` is an
+-- operator of the current precedence level.
 module _ (operand : Parser Expression) (k : ℕ) (Ready : List Symbol → Type 0) (stops : (ts : List Symbol) → Ready ts → operator_at k (next ts) ≡ None → NoLess ts)
     (ready : (ts rest : List Symbol) (e : Expression) → operand ts ≡ Ok (e, rest) → Ready rest) where
   stopped : (ts rest : List Symbol) (os : Operations) → Ready ts → operator_at k (next ts) ≡ None → pure NoOperations ts ≡ Ok (os, rest) → NoLess rest

@@ -85,7 +85,8 @@ beyond_as {Open = Open} {a = a} {b = b} e h = subst (λ (w : Outcome _). Beyond 
 pub agree_as : {A : Type 0} {Open : A → Type 0} {a b : List Symbol} {o o' u u' : Outcome A} → o ≡ o' → u ≡ u' → Agrees Open a b o' u' → Agrees Open a b o u
 agree_as {Open = Open} {a = a} {b = b} {o' = o'} {u = u} e e' h = subst (λ (w : Outcome _). Agrees Open a b w u) (sym e) (subst (λ (w : Outcome _). Agrees Open a b o' w) (sym e') h)
 
--- If a parser succeeds and leaves exactly the symbols after the common part of two inputs, then its two outcomes agree.
+-- Two inputs begin with the same symbols. If a parser succeeds on both and leaves the same rest of these symbols, then
+-- its outcomes on the two inputs agree.
 pub answered : {A : Type 0} {Open : A → Type 0} (x : A) (f a b : List Symbol) → Agrees Open a b (Ok (x, f ++ a)) (Ok (x, f ++ b))
 answered x [] a b = goes_on (reads_on x a refl (suffix_whole a))
 answered x (t ∷ f) a b = both_read x t f refl refl
@@ -93,7 +94,7 @@ answered x (t ∷ f) a b = both_read x t f refl refl
 -- ---- rules for composed parsers
 
 -- Says that a parser may follow a result after which `<` may open region arguments. If `<` comes next, the parser rejects the `<` only
--- if it makes an operator chain too long.
+-- if it makes a chain of binary operators too long.
 abbrev pub Tolerates : {B : Type 0} → (B → Type 0) → Parser B → Type 0
 Tolerates Open q = (t : Symbol) (a b : List Symbol) → IsLess t → Differ a b → Beyond Open a b (q (t ∷ a))
 
@@ -371,7 +372,7 @@ item_refusal_runs {A} {Open = Open} begins why = record {
 
 -- ---- lists, with as many rounds as there are symbols
 
--- Two continuations of a parser give equal results if they agree on the symbols that the parser leaves.
+-- Two continuations of a parser give equal results if they agree on the symbols that the parser leaves unread.
 pub same_after : {A B : Type 0} {c : Bool} {Open : A → Type 0} {p : Parser A} (f g : A → Parser B) (ts : List Symbol) → Runs c Open p
     → ((x : A) (rest : List Symbol) → length rest ≤ length ts → f x rest ≡ g x rest) → bind p f ts ≡ bind p g ts
 unfolding bind

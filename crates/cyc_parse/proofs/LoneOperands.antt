@@ -1,5 +1,5 @@
--- Facts about operands that are a single number or name, followed by no arguments, no postfix and no tighter operator. The file also covers
--- postfixes that are not an index.
+-- Facts about operands that are a single number or name, followed by no arguments, no postfix and no tighter operator. The file also has
+-- facts about postfixes other than an index in brackets.
 use Rattle.std.proofs.Common.{◌≡◌, ℕ, zero, suc, Bool, true, false, not, ◌||◌, List, [], ◌∷◌, Option, None, Some, is_some, Ok, refl, ap, subst, ◌∙◌}
 use Rattle.std.proofs.lemmas.Bool.{or_parts}
 use Rattle.cyc_words.proofs.Options.{none_from_is_some}
@@ -23,7 +23,8 @@ pub no_chain : (room : ℕ) (e : Expression) (ts : List Symbol) → sees signs.L
 unfolding bind
 no_chain room e ts none = rw (no_postfix_seen room max_items (nested room) ts none) refl
 
--- If no operator of a tighter level follows an operand, the operand ends after its first part.
+-- If no operator of a tighter precedence level follows an operand, then the operand consists only
+-- of its prefixes, its primary expression and its postfixes.
 operand_ends : (room below : ℕ) (e : Expression) (ts us : List Symbol) → unary room (nested room) ts ≡ Ok (e, us) → level_at 0 below (next us) ≡ None → operand room (nested room) below ts ≡ Ok (e, us)
 unfolding bind
 operand_ends room below e ts us first none = rw first (climb_all room below e us ∙ climb_ends room 0 below e us none)

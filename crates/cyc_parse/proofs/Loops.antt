@@ -24,17 +24,17 @@ abbrev pub following : {Y B : Type 0} → (Y → B → B) → Parser B → Parse
 following add last rest None ts = last ts
 following add last rest (Some y) ts = and_then (rest ts) (λ b us. Ok (add y b, us))
 
--- Says that `many` reads a list step by step; its number argument is the number of steps left.
+-- Says that `many` reads a list element by element; its number argument is the number of steps left.
 pub record Steps {Y B : Type 0} (add : Y → B → B) (last : Parser B) (one : Parser (Option Y)) (many : ℕ → Parser B) : Type 0 where
   pub step : (n : ℕ) (ts : List Symbol) → many (suc n) ts ≡ and_then (one ts) (following add last (many n))
 
 module _ {X Y B : Type 0} (view : X → Y) (add : Y → B → B) where
-  -- Prepends the items read so far to a list.
+  -- Prepends the elements that were read so far to a list.
   abbrev pub onto : List X → B → B
   onto [] b = b
   onto (x ∷ xs) b = add (view x) (onto xs b)
 
-  -- Returns the outcome for the rest of a list, with the items read so far prepended to the result.
+  -- Returns the outcome for the rest of a list, with the elements read so far prepended to the result.
   abbrev pub with_front : List X → Outcome B → Outcome B
   with_front front outcome = and_then outcome (λ b ts. Ok (onto front b, ts))
 
@@ -85,7 +85,7 @@ module _ {X Y B : Type 0} (view : X → Y) (add : Y → B → B) where
         let step : many (count - i) ts ≡ Ok (b, us) = ap (λ (n : ℕ). many n ts) k ∙ h in
         sym so_far ∙ ap (with_front front) step
 
--- Relates the list that the code builds to the list that the specified parser returns.
+-- Says that the list that the code builds in its loop equals the list that the specified parser returns.
 module _ {X Y B : Type 0} (view : X → Y) (add : Y → B → B) (nothing : B) (show : List X → B) (shows : (xs : List X) → onto view add xs nothing ≡ show xs)
     (one : Parser (Option Y)) (many : ℕ → Parser B) (steps : Steps add (pure nothing) one many) where
   pub ends_as : (front : List X) (count i : ℕ) (ts us : List Symbol) (read : Option X) (whole : Outcome B) → i < count → one ts ≡ Ok (option_map view read, us) → read ≡ None
@@ -114,7 +114,7 @@ onto-operations (x ∷ xs) = ap (then_operation x) (onto-operations xs)
 
 -- ---- the steps of each list
 
--- Reading an item and then the rest of a list gives the item prepended to the rest.
+-- Reading an element and then the rest of a list gives the element prepended to the rest.
 after_item : {A Y B : Type 0} (make : A → Y) (add : Y → B → B) (last rest : Parser B) (o : Outcome A)
     → and_then o (λ a. bind rest (λ b. pure (add (make a) b))) ≡ and_then (and_then o (λ a. pure (Some (make a)))) (following add last rest)
 unfolding bind
@@ -145,8 +145,8 @@ pub pointers_of_steps : (room : ℕ) → Steps (λ m ms. m ∷ ms) (pure []) (on
 unfolding pointers_of choose if_is
 pointers_of_steps room = record { step = λ n ts. by_mark room (pointers_of room n) (mark_at (next ts)) ts }
 
--- If `g` equals `f` followed by `k` after each result of a first step, then this also holds for the
--- composed parsers that begin with that step.
+-- Let parsing with `g` after a first step equal parsing with `f` and then `k`, for each result of
+-- the step. Then the composed parsers that begin with the step are equal too.
 pub lift : {A B C : Type 0} (k : C → Parser B) (o : Outcome A) (f : A → Parser C) (g : A → Parser B) → ((a : A) (us : List Symbol) → g a us ≡ and_then (f a us) k) → and_then o g ≡ and_then (and_then o f) k
 lift k (Ok p) f g h = h p.0 p.1
 lift k (Err e) f g h = refl

@@ -78,7 +78,8 @@ texts_in-append : (xs ys : List Token) → texts_in (xs ++ ys) ≡ texts_in xs +
 texts_in-append [] ys = refl
 texts_in-append (x ∷ xs) ys = ap (name_texts x.kind) (texts_in-append xs ys) ∙ name_texts-append x.kind (texts_in xs) (texts_in ys)
 
--- The next token is added: `names` are the texts met before the token, and `more` also contains the token's text.
+-- The next token's text is added to the list of distinct texts: `names` are the texts met before the token, and
+-- `more` also contains the token's text.
 module _ (f : CodeToken → Token) (seen : List (List ℕ)) (tokens : List CodeToken) (i : ℕ) (d : CodeToken) (within : i < length tokens) where
   one_more : map f (take (i + 1) tokens) ≡ map f (take i tokens) ++ f (get_or tokens i d) ∷ []
   one_more = ap (map f) (take_more tokens i d within) ∙ map-append f (take i tokens) (get_or tokens i d ∷ [])

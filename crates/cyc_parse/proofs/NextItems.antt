@@ -1,4 +1,4 @@
--- Facts about one step of reading a list, which the next symbol decides.
+-- Facts about the steps in which a list is read; in each step the next symbol decides if another element is read.
 use Rattle.std.proofs.Common.{◌≡◌, ℕ, true, false, List, Option, Some, None, Ok, refl, ap, ◌∙◌}
 use Rattle.cyc_syntax.specs.declared.tokens.Sign.TheVariants as signs
 use Rattle.cyc_syntax.specs.declared.tree.BinaryOperator.{BinaryOperator}

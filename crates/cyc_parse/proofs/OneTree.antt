@@ -1,4 +1,4 @@
--- A list of symbols has at most one tree that keeps the limits, because the parser returns each such tree.
+-- A list of symbols has at most one tree that keeps the limits on nesting and list length, because the parser returns each such tree.
 use Rattle.std.specs.Prelude.{◌≡◌, Bool, true, false, cond, nat_lt, List, [], ◌∷◌, Ok, Err}
 use Rattle.std.specs.List.{AllByRecursion}
 use Rattle.std.proofs.Common.{sym, ◌∙◌, ap, refl}
@@ -12,7 +12,8 @@ use Rattle.cyc_parse.specs.inside.Parsing.{Outcome, Refusal, TooDeep, TooLong}
 use Rattle.cyc_parse.proofs.Rules.{judge}
 use Rattle.cyc_parse.proofs.Completeness.{program_of-complete}
 
--- If all leaves of a yield keep the limits, then checking the leaves against the limits does not change an outcome.
+-- If all leaves of a yield keep the limits on nesting and list length, then checking the leaves against the limits
+-- does not change an outcome.
 pub judge-within : {A : Type 0} (leaves : Yield) (ts : List Symbol) (outcome : Outcome A) → AllByRecursion IsWithin leaves → judge leaves ts outcome ≡ outcome
 judge-within [] ts outcome all = refl
 judge-within (l ∷ ls) [] outcome all = refl

@@ -1,4 +1,4 @@
--- Each symbol that may begin a type, an expression, a statement or an item does begin one. This file constructs examples.
+-- Each symbol that may begin a type, an expression, a statement or a block item does begin the yield of one. This file constructs examples.
 use Rattle.std.proofs.Common.{◌≡◌, ℕ, suc, ◌≤◌, true, false, List, [], ◌∷◌, ◌++◌, Option, Some, None, is_some, refl, sym, arith, true≢false}
 use Rattle.cyc_syntax.specs.declared.tokens.Keyword.{Keyword}
 use Rattle.cyc_syntax.specs.declared.tokens.Keyword.TheVariants as words

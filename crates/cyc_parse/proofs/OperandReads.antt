@@ -18,7 +18,7 @@ use Rattle.cyc_parse.proofs.OperatorSigns.{at_prefix_sign}
 use Rattle.cyc_parse.proofs.OperatorReads.{climb_all}
 use Rattle.cyc_parse.proofs.ExpressionReads.{deeper, shallow, Parts, PostfixParts, group_reads, primary_reads, with_postfixes_reads}
 
--- Says that an expression of each operator level is parsed back from its yield, at each nesting depth.
+-- Says that an expression of each precedence level is parsed back from its yield, at each nesting depth.
 pub record IsReadAll (e : Expression) : Type 0 where
   pub unary : (room d : ℕ) → Fits room d → IsExpression 0 e → Reads (nested room).unary e (yields.expression d e) (Stops 0)
   pub operand : (k room d : ℕ) → Fits room d → k ≤ 10 → IsExpression k e → Reads (bind (nested room).unary (climb (nested room).unary k)) e (yields.expression d e) (Stops k)
@@ -44,14 +44,14 @@ deep_expression d fits e = deep_reads begins_expression d (omega arith) (express
 
 -- ---- operator levels, from operands upward
 
--- If no assignment operator follows an operator chain, then the chain is parsed back as an expression.
+-- If no assignment operator follows a chain of binary operators, then the chain is parsed back as an expression.
 pub unassigned : (room d : ℕ) {e : Expression} → Reads (bind (nested (suc room)).unary (climb (nested (suc room)).unary 10)) e (yields.expression d e) (Stops 10) → Reads (nested (suc room)).expression e (yields.expression d e) (Stops 11)
 unfolding nested
 unassigned room d {e = e} h = nothing_reads (assignment room (nested room)) h
     (unseen_reads signs.Assign _ _ (λ ts rest front ends. ap (sees signs.Assign) front ∙ no_assign rest ends) (pure_reads e (Stops 11)))
     (λ rest ends. stops-less 10 11 rest (omega arith) ends)
 
--- An expression that is an operand is also parsed back as an expression of each looser operator level.
+-- An expression that is an operand is also parsed back as an expression of each looser precedence level.
 pub from_unary : (e : Expression) → ((k : ℕ) → IsExpression k e → IsExpression 0 e) → ((room d : ℕ) → Fits (suc room) d → IsExpression 0 e → Reads (unary room (nested room)) e (yields.expression d e) (Stops 0))
     → ((room d : ℕ) → Fits (suc room) d → IsExpression 0 e → Parts room d e) → IsReadAll e
 unfolding nested

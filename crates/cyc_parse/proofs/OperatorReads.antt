@@ -38,7 +38,7 @@ stops_operator k d i o p e ys mid rest same (t, more, is, is_leaf, front) =
 
 -- ---- the operators of one level
 
--- Says that the operands of an operator chain are parsed back from their yields.
+-- Says that the operands of a chain of binary operators are parsed back from their yields.
 abbrev pub OperationParts : Parser Expression → ℕ → ℕ → Operations → Type 0
 OperationParts operand k d NoOperations = Unit {0}
 OperationParts operand k d (ThenOperation o p e os) = (level o ≡ suc k) × Reads operand e (yields.expression d e) (Stops k) × OperationParts operand k d os
@@ -60,7 +60,7 @@ module _ (operand : Parser Expression) (k d : ℕ) (shallow : d ≤ max_nesting)
 -- ---- induction on the levels
 
 module _ (unary : Parser Expression) where
-  -- Extends a first operand by the operators of one level.
+  -- Extends a first operand by the operators of one precedence level, with their right operands.
   abbrev pub at_level : ℕ → Expression → Parser Expression
   at_level k first = bind (operations (bind unary (climb unary k)) (suc k) max_items) (λ os. pure (binary_of first os))
 
@@ -76,7 +76,7 @@ module _ (unary : Parser Expression) where
   unfolding climb
   climb_zero {e = e} h = last_reads (climb unary zero) (λ ts. refl) h
 
-  -- If no operator of a level follows, then an operand of that level is also an operand of the next looser level.
+  -- If no operator of a precedence level follows an operand of that level, then the operand is also an operand of the next looser level.
   pub climb_more : {e : Expression} {xs : Yield} (k : ℕ) → Reads (bind unary (climb unary k)) e xs (Stops k) → Reads (bind unary (climb unary (suc k))) e xs (Stops (suc k))
   climb_more {e = e} k h = reads_instead (bind (bind unary (climb unary k)) (at_level k)) (λ ts rest front ends. climb-suc k ts)
       (nothing_reads (at_level k) h (last_reads (λ (v : Operations). pure (binary_of e v)) (λ ts. refl) (operations_reads (bind unary (climb unary k)) k 0 (omega arith) 64 1 NoOperations refl tt))
@@ -90,7 +90,7 @@ module _ (unary : Parser Expression) where
   some-binary e NoOperations some = absurd some
   some-binary e (ThenOperation o p r os) some = refl
 
-  -- An operator chain of a given level is parsed back from its yield.
+  -- A chain of binary operators of a given level is parsed back from its yield.
   pub chain_reads : (k d : ℕ) → d ≤ max_nesting → (e : Expression) (os : Operations) → IsSomeOperation os → Reads (bind unary (climb unary k)) e (yields.expression d e) (Stops k)
       → OperationParts (bind unary (climb unary k)) k d os → Reads (bind unary (climb unary (suc k))) (Binary e os) (yields.expression d e ++ yields.operations d 1 os) (Stops (suc k))
   chain_reads k d shallow e os some first parts = reads_instead (bind (bind unary (climb unary k)) (at_level k)) (λ ts rest front ends. climb-suc k ts)

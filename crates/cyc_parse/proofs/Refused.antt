@@ -143,7 +143,7 @@ program_of-refused ts e h = let s = program_suffix ts e h in record {
 
 -- ---- rejected and accepted symbols
 
--- Symbols with a parse tree that keeps the limits are never rejected.
+-- Symbols with a parse tree that keeps the limits on nesting and list length are never rejected.
 pub within_limits_answered : (ts : List Symbol) (tree : List Declaration) → HasTree ts tree → IsWithinLimits tree → program_of ts ≡ Ok (tree, [])
 within_limits_answered ts tree has small = program_of-complete ts tree has ∙ judge-within (yields.program tree) ts (Ok (tree, [])) small
 

@@ -29,7 +29,7 @@ region_list_reads room d fits shallow r rs Ends = sign_reads room d signs.Less _
     (sign_reads room d signs.Greater _ fits (λ q. pure_reads (r ∷ rs) Ends))
     (λ mid rest front ends. record { item = tt; comma = ap (sees_terminal signs.Comma) (front-next (leaf_of d (Mark signs.Greater)) [] mid rest front) }))
 
--- Region arguments begin with `<` and a region.
+-- The yield of region arguments begins with `<` and a region.
 pub regions_open : (d : ℕ) (r : Named) (rs : List Named) (ys : Yield) (ts rest : List Symbol) → Front (yields.region_list d (r ∷ rs) ++ ys) ts rest → opens_regions ts ≡ true
 regions_open d r rs ys ts rest (t, more, e, is_leaf, front) =
     ap opens_regions e ∙ rw (is_leaf.terminal) (ap (starts begins_region) (front-next (record { terminal = RegionName r.name; place = Some r.place; nesting = d; item = 1 }) _ more rest front))

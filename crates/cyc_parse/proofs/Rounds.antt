@@ -1,4 +1,4 @@
--- Reading a list in rounds gives the result of the list's parser. Each round reads an item and tests the next symbol.
+-- Reading a list in rounds gives the result of the list's parser. Each round reads an element and tests the next symbol.
 use Rattle.std.proofs.Common.{◌≡◌, ℕ, zero, suc, ◌+◌, ◌-◌, ◌<◌, ◌≤◌, Bool, true, false, cond, List, [], ◌∷◌, ◌++◌, map, Option, Some, None, Ok, Err, if◌then◌else◌, refl, sym, ap, ◌∙◌, arith}
 use Rattle.cyc_syntax.specs.declared.tokens.Sign.TheVariants as signs
 use Rattle.cyc_syntax.specs.Symbols.{Terminal, Symbol, Place}
@@ -10,11 +10,12 @@ use Rattle.cyc_parse.specs.inside.Parsing.{Parser, Outcome, Unexpected, TooLong,
 use Rattle.cyc_parse.specs.inside.Declarations.{more_of, some_of}
 use Rattle.cyc_parse.proofs.Loops.{with_front, onto-map, regroup}
 
--- Says that `many` reads the rest of a list after an item, and `next` reads an item and the rest; their number argument bounds the items.
+-- Says that `many` reads the rest of a list after an element, and `next` reads an element and the rest; their number argument bounds the
+-- elements.
 pub record Rounds {Y : Type 0} (item : Parser Y) (many next : ℕ → Parser (List Y)) : Type 0 where
   pub turn : (n : ℕ) (ts : List Symbol) → next (suc n) ts ≡ and_then (item ts) (λ y us. and_then (many n us) (λ ys vs. Ok (y ∷ ys, vs)))
 
--- Returns the outcome for the remaining rounds, with the items read before prepended to the list.
+-- Returns the outcome of the remaining rounds of reading a list, with the elements that were read before prepended to the list.
 abbrev pub with_items : {X Y : Type 0} → (X → Y) → List X → Outcome (List Y) → Outcome (List Y)
 with_items view = with_front view (λ y ys. y ∷ ys)
 
@@ -28,7 +29,7 @@ module _ {X Y : Type 0} (view : X → Y) (item : Parser Y) (many next : ℕ → 
       ap (λ (n : ℕ). next n ts) k ∙ rounds.turn _ ts ∙ ap (λ (o : Outcome Y). and_then o (λ y vs. and_then (many (count - (i + 1)) vs) (λ ys ws. Ok (y ∷ ys, ws)))) h in
       sym so_far ∙ ap (with_items view front) step
 
-  -- After a round has read an item, the test of the next symbol decides how the list goes on.
+  -- After a round has read an element of a list, the test of the next symbol decides if the list continues.
   pub item_read : (front : List X) (x : X) (count i : ℕ) (ts us : List Symbol) (whole : Outcome (List Y)) → i < count → item ts ≡ Ok (view x, us)
       → with_items view front (next (count - i) ts) ≡ whole → with_items view (front ++ x ∷ []) (many (count - (i + 1)) us) ≡ whole
   item_read front x count i ts us whole lt h so_far =
@@ -64,7 +65,7 @@ unfoldable pub next_item : {A : Type 0} → ℕ → (Terminal → Bool) → Pars
 next_item room begins item zero = refuse_item begins TooLong
 next_item room begins item (suc n) = item >>= (λ x. more_items room begins item n >>= (λ xs. pure (x ∷ xs)))
 
--- Before the first item of a list, prepending no items leaves the outcome unchanged.
+-- Before the first element of a list is read, prepending the elements read so far (none) leaves the outcome unchanged.
 no_items : {X Y : Type 0} (view : X → Y) (outcome : Outcome (List Y)) → with_items view [] outcome ≡ outcome
 no_items view (Ok p) = refl
 no_items view (Err e) = refl
@@ -102,7 +103,7 @@ comma_fails room begins item n (stops.Refused why) ts us h stopped =
     comma_decides room begins item n ts ∙ ap (λ (b : Bool). cond b (bind (sign room signs.Comma) (λ _. next_item room begins item n)) (pure []) ts) h
     ∙ ap (λ (o : Outcome Place). and_then o (λ _. next_item room begins item n)) stopped
 
--- After the last permitted comma of a list, an item is rejected as too long; any other symbol is unexpected.
+-- After the last permitted comma of a list, a further element is rejected because the list is too long; any other symbol is unexpected.
 limit_by_test : {A : Type 0} (b : Bool) (ts : List Symbol) → Stops (stops.Refused (if b then reasons.TooLong else reasons.Unexpected)) (refuse {A = A} (if b then TooLong else Unexpected) ts) ts
 limit_by_test true ts = refl
 limit_by_test false ts = refl

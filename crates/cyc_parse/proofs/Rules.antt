@@ -29,7 +29,8 @@ judge (leaf ∷ leaves) (t ∷ ts) outcome =
     (cond (nat_lt max_items leaf.item) (Err (record { reason = TooLong; left = t ∷ ts }))
     (judge leaves ts outcome))
 
--- Says that, on symbols that begin with the yield of x and do not continue it, the parser returns x, or rejects the first broken limit.
+-- Says that, if the symbols begin with the yield of x and the symbols after it cannot continue x, the parser returns x or rejects the
+-- first broken limit.
 pub record Reads {A : Type 0} (p : Parser A) (x : A) (leaves : Yield) (Ends : List Symbol → Type 0) : Type 0 where
   pub reads : (ts rest : List Symbol) → Front leaves ts rest → Ends rest → p ts ≡ judge leaves ts (Ok (x, rest))
 
@@ -63,7 +64,7 @@ and_then-judge {A} {B} (l ∷ xs) (t ∷ ts) outcome f =
 
 -- ---- rules for composed parsers
 
--- `Reads` holds for a parser followed by another if it holds for both.
+-- The completeness statement `Reads` holds for a parser followed by another if it holds for both.
 pub then_reads : {A B : Type 0} {p : Parser A} (f : A → Parser B) {x : A} {y : B} {xs ys : Yield} {EndsX EndsY : List Symbol → Type 0}
     → Reads p x xs EndsX → Reads (f x) y ys EndsY → ((mid rest : List Symbol) → Front ys mid rest → EndsY rest → EndsX mid) → Reads (bind p f) y (xs ++ ys) EndsY
 unfolding bind
@@ -79,7 +80,7 @@ then_reads {p = p} f {x = x} {y = y} {xs = xs} {ys = ys} first second between = 
 pub pure_reads : {A : Type 0} (x : A) (Ends : List Symbol → Type 0) → Reads (pure x) x [] Ends
 pure_reads x Ends = record { reads = λ ts rest front ends. ap (λ (s : List Symbol). Ok (x, s)) front }
 
--- `Reads` holds for a parser followed by a function that makes a node of its result.
+-- The completeness statement `Reads` holds for a parser followed by a function that makes a node of its result.
 pub last_reads : {A B : Type 0} {p : Parser A} (f : A → Parser B) {x : A} {y : B} {xs : Yield} {Ends : List Symbol → Type 0} → ((ts : List Symbol) → f x ts ≡ Ok (y, ts))
     → Reads p x xs Ends → Reads (bind p f) y xs Ends
 unfolding bind
@@ -88,12 +89,12 @@ last_reads f {x = x} {y = y} {xs = xs} is h = record {
       ap (λ (o : Outcome _). and_then o f) (h.reads ts rest front ends) ∙ and_then-judge xs ts (Ok (x, rest)) f ∙ ap (judge xs ts) (is rest);
 }
 
--- In `Reads`, a parser may be replaced by one that returns an equal result on the given symbols.
+-- In the completeness statement `Reads`, a parser may be replaced by one that returns an equal result on the given symbols.
 pub reads_instead : {A : Type 0} {p : Parser A} (q : Parser A) {x : A} {xs : Yield} {Ends : List Symbol → Type 0}
     → ((ts rest : List Symbol) → Front xs ts rest → Ends rest → p ts ≡ q ts) → Reads q x xs Ends → Reads p x xs Ends
 reads_instead q same h = record { reads = λ ts rest front ends. same ts rest front ends ∙ h.reads ts rest front ends }
 
--- In `Reads`, the condition on the following symbols may be strengthened.
+-- In the completeness statement `Reads`, the condition on the following symbols may be strengthened.
 pub reads_before : {A : Type 0} {p : Parser A} {x : A} {xs : Yield} (Ends : List Symbol → Type 0) {More : List Symbol → Type 0}
     → Reads p x xs Ends → ((rest : List Symbol) → More rest → Ends rest) → Reads p x xs More
 reads_before Ends h weaker = record { reads = λ ts rest front ends. h.reads ts rest front (weaker rest ends) }
@@ -118,7 +119,7 @@ accept_reads : {B C : Type 0} (room : ℕ) (b : B) (f : B → Parser C) (leaf : 
 accept_reads zero b f leaf ys t more outcome fits few e = sym (judge-deep leaf ys t more outcome (omega arith))
 accept_reads (suc room) b f leaf ys t more outcome fits few e = e ∙ sym (judge-leaf leaf ys t more outcome (omega arith) few)
 
--- `Reads` holds for the parser of one symbol, followed by another parser.
+-- The completeness statement `Reads` holds for the parser of one symbol, followed by another parser.
 pub token_reads : {A B C : Type 0} (room : ℕ) (reads : Terminal → Option A) (give : A → Place → B) (f : B → Parser C) {y : C} {ys : Yield} {Ends : List Symbol → Type 0} (leaf : Leaf) (a : A)
     → Fits room leaf.nesting → leaf.item ≤ max_items → reads leaf.terminal ≡ Some a
     → ((p : Place) → IfSome leaf.place (λ q. p ≡ q) → Reads (f (give a p)) y ys Ends)
@@ -168,7 +169,7 @@ identifier_reads room d x f {y = y} {ys = ys} {Ends = Ends} fits next =
     token_reads room identifier_name named f (leaf_at d (Identifier x.name) x.place) x.name fits (omega arith) refl
     (λ p e. subst (λ (q : Place). Reads (f (named x.name q)) y ys Ends) (sym e) next)
 
--- `Reads` holds for the parser of a region name whose index in its list is within the limit.
+-- The completeness statement `Reads` holds for the parser of a region name whose index in its list is within the limit.
 pub region_reads : {C : Type 0} (room d i : ℕ) (x : Named) (f : Named → Parser C) {y : C} {ys : Yield} {Ends : List Symbol → Type 0} → Fits room d → i ≤ max_items
     → Reads (f x) y ys Ends → Reads (bind (region_name room) f) y (record { terminal = RegionName x.name; place = Some x.place; nesting = d; item = i } ∷ ys) Ends
 region_reads room d i x f {y = y} {ys = ys} {Ends = Ends} fits few next =
@@ -190,7 +191,7 @@ advance_reads f {y = y} {ys = ys} leaf shallow few next = record {
       ((next t.place is_leaf.place).reads more rest front ends ∙ sym (judge-leaf leaf ys t more (Ok (y, rest)) shallow few));
 }
 
--- `Reads` holds for reading the next symbol, whose source position the tree stores.
+-- The completeness statement `Reads` holds for reading the next symbol, whose source position the tree stores.
 pub advance_reads_at : {C : Type 0} (d : ℕ) (t : Terminal) (q : Place) (f : Place → Parser C) {y : C} {ys : Yield} {Ends : List Symbol → Type 0} → d ≤ max_nesting
     → Reads (f q) y ys Ends → Reads (bind advance f) y (leaf_at d t q ∷ ys) Ends
 advance_reads_at d t q f {y = y} {ys = ys} {Ends = Ends} shallow next =
@@ -231,13 +232,13 @@ pub isnt_reads : {A B : Type 0} (reads : Option Terminal → Option A) (f : A �
 unfolding if_is
 isnt_reads reads f q isnt h = reads_instead q (λ ts rest front ends. ap (λ (o : Option _). on_some o f q ts) (isnt ts rest front ends)) h
 
--- `Reads` holds for a parser followed by one that reads no symbol.
+-- The completeness statement `Reads` holds for a parser followed by one that reads no symbol.
 pub nothing_reads : {A B : Type 0} {p : Parser A} (f : A → Parser B) {x : A} {y : B} {xs : Yield} {EndsX EndsY : List Symbol → Type 0}
     → Reads p x xs EndsX → Reads (f x) y [] EndsY → ((rest : List Symbol) → EndsY rest → EndsX rest) → Reads (bind p f) y xs EndsY
 nothing_reads {p = p} f {y = y} {xs = xs} {EndsX = EndsX} {EndsY = EndsY} first second between =
     subst (λ (zs : Yield). Reads (bind p f) y zs EndsY) (append-nil xs) (then_reads f first second (λ mid rest front ends. subst EndsX (sym front) (between rest ends)))
 
--- If an item begins at the next symbol, it is rejected for the limit that it breaks.
+-- If a list element begins at the next symbol, then this symbol is rejected for the given reason.
 pub refuse_item-is : {A : Type 0} (begins : Terminal → Bool) (why : Reason) (t : Symbol) (ts : List Symbol) → begins t.terminal ≡ true
     → refuse_item {A = A} begins why (t ∷ ts) ≡ Err (record { reason = why; left = t ∷ ts })
 unfolding refuse_item
@@ -287,7 +288,7 @@ pub deep_then_reads : {A B : Type 0} (begins : Terminal → Bool) (d : ℕ) (f :
     → Reads (bind (refuse_item begins TooDeep) f) x xs Ends
 deep_then_reads begins d f deep s = reads_instead (refuse_item begins TooDeep) (λ ts rest front ends. deep_bind begins f ts) (deep_reads begins d deep s)
 
--- `Reads` holds for the parser of a list element whose index is within the limit on the list's length.
+-- The completeness statement `Reads` holds for the parser of a list element whose index is within the limit on the list's length.
 pub number_reads : {A : Type 0} {p : Parser A} {x : A} {xs : Yield} {Ends : List Symbol → Type 0} (begins : Terminal → Bool) (d i : ℕ) → i ≤ max_items → Starts begins d xs
     → Reads p x xs Ends → Reads p x (item_number i xs) Ends
 number_reads {p = p} {x = x} {Ends = Ends} begins d i few s h =
@@ -305,7 +306,8 @@ pub seen_reads : {A : Type 0} (s : Sign) (p q : Parser A) {x : A} {xs : Yield} {
 unfolding if_sees
 seen_reads s p q is h = reads_instead p (λ ts rest front ends. ap (λ (b : Bool). (cond b p q) ts) (is ts rest front ends)) h
 
--- `Reads` holds for the parser of a sign (punctuation token) that is the element with a given index in its list or chain.
+-- The completeness statement `Reads` holds for the parser of a sign (punctuation token) that is the element with a given
+-- index in its list or chain.
 pub sign_reads_item : {C : Type 0} (room d i : ℕ) (s : Sign) (f : Place → Parser C) {y : C} {ys : Yield} {Ends : List Symbol → Type 0} → Fits room d → i ≤ max_items
     → ((p : Place) → Reads (f p) y ys Ends) → Reads (bind (sign room s) f) y (record { terminal = Mark s; place = None; nesting = d; item = i } ∷ ys) Ends
 sign_reads_item room d i s f fits few next = token_reads room (is_sign s) only_place f (record { terminal = Mark s; place = None; nesting = d; item = i }) tt fits few (same_sign-self s) (λ p _. next p)
@@ -317,7 +319,7 @@ long_leaf_reads {x = x} leaf ys shallow many = record {
       subst (λ (w : List Symbol). refuse TooLong w ≡ judge (leaf ∷ ys) w (Ok (x, rest))) (sym e) (rw (le-nat_lt max_nesting leaf.nesting shallow, lt-nat_lt max_items leaf.item many) refl);
 }
 
--- `Reads` holds for a parser if it holds for the parser followed by returning the result unchanged.
+-- The completeness statement `Reads` holds for a parser if it holds for the parser followed by returning the result unchanged.
 pub bare_reads : {A : Type 0} {p : Parser A} {x : A} {xs : Yield} {Ends : List Symbol → Type 0} → Reads (bind p (λ v. pure v)) x xs Ends → Reads p x xs Ends
 unfolding bind
 bare_reads {A} {p = p} {x = x} {xs = xs} h = record { reads = λ ts rest front ends. sym (same (p ts)) ∙ h.reads ts rest front ends }
@@ -326,7 +328,7 @@ bare_reads {A} {p = p} {x = x} {xs = xs} h = record { reads = λ ts rest front e
     same (Ok v) = refl
     same (Err e) = refl
 
--- `Reads` holds for reading an operator that has a given index in its chain.
+-- The completeness statement `Reads` holds for reading an operator that has a given index in its chain.
 pub advance_reads_item : {C : Type 0} (d i : ℕ) (t : Terminal) (q : Place) (f : Place → Parser C) {y : C} {ys : Yield} {Ends : List Symbol → Type 0} → d ≤ max_nesting → i ≤ max_items
     → Reads (f q) y ys Ends → Reads (bind advance f) y (record { terminal = t; place = Some q; nesting = d; item = i } ∷ ys) Ends
 advance_reads_item d i t q f {y = y} {ys = ys} {Ends = Ends} shallow few next =
@@ -337,11 +339,11 @@ pub front-length : (xs : Yield) (ts rest : List Symbol) → Front xs ts rest →
 front-length [] ts rest front = zero-le
 front-length (leaf ∷ xs) ts rest (t, more, e, is_leaf, front) = subst (λ (s : List Symbol). suc (length xs) ≤ length s) (sym e) (suc-le-suc (front-length xs more rest front))
 
--- If a parser reads a yield, it also reads an equal yield, for example one with another grouping.
+-- If a parser returns a tree from a yield, then it also returns the tree from an equal yield, for example one with another grouping.
 pub yield_reads : {A : Type 0} {q : Parser A} {x : A} {xs ys : Yield} {Ends : List Symbol → Type 0} → xs ≡ ys → Reads q x xs Ends → Reads q x ys Ends
 yield_reads {q = q} {x = x} {Ends = Ends} same h = subst (λ (zs : Yield). Reads q x zs Ends) same h
 
--- If a part of a yield stands between two leaves, it may be regrouped with the symbols after it.
+-- If some leaves of a yield stand between two other leaves, they may be regrouped with the symbols after them.
 pub between_then : {A : Type 0} {q : Parser A} {x : A} {Ends : List Symbol → Type 0} (l r : Leaf) (xs ys : Yield) → Reads q x ((l ∷ (xs ++ r ∷ [])) ++ ys) Ends → Reads q x (l ∷ (xs ++ r ∷ ys)) Ends
 between_then l r xs ys h = yield_reads (ap (λ (zs : Yield). l ∷ zs) (append_assoc xs (r ∷ []) ys)) h
 

@@ -1,5 +1,5 @@
--- SOUNDNESS: a tree that the parser returns is a parse tree of all the symbols and keeps the limits. If the parser rejects a symbol for
--- a limit, some program begins with the symbols up to that one.
+-- SOUNDNESS: a tree that the parser returns is a parse tree of all the symbols and keeps the limits on nesting and list length. If the
+-- parser rejects a symbol for a limit, some program begins with the symbols up to that one.
 use Rattle.std.proofs.Common.{◌≡◌, ℕ, zero, suc, ◌≤◌, List, [], ◌∷◌, ◌++◌, length, Option, Some, None, Ok, Err, refl, sym, ap, subst, ◌∙◌, arith, append_assoc}
 use Rattle.std.proofs.lemmas.List.{append_cancel_right}
 use Rattle.std.specs.Option.{IfSome}
@@ -92,7 +92,7 @@ program_of-sound ts left tree h =
           within = subst IsWithinLimits value small;
         }
 
--- The weight of a returned tree equals the number of symbols that it was parsed from.
+-- The weight of a returned tree, that is, its number of tokens, equals the number of symbols that it was parsed from.
 pub answered_weight : (ts left : List Symbol) (tree : List Declaration) → program_of ts ≡ Ok (tree, left) → tree_weight tree ≡ length ts
 answered_weight ts left tree h = tree_weight-length ts tree (program_of-sound ts left tree h).has
 

@@ -31,12 +31,12 @@ items_in_steps room inner = record {
 }
 
 module _ (room : ℕ) (inner : Nested) (ts : List Symbol) where
-  -- If no declaration or statement begins at the next symbol, then the list of a block's items ends.
+  -- If no declaration or statement begins at the next symbol, then the list of a block's declarations and statements ends.
   pub no_item : starts begins_item (next ts) ≡ false → one_item room inner ts ≡ Ok (None, ts)
   unfolding if_starts
   no_item ends = rw ends refl
 
-  -- If a declaration or statement begins at the next symbol, then the step of the loop over a block's items reads it.
+  -- If a declaration or statement begins at the next symbol, then the step of the loop over a block's declarations and statements reads it.
   pub an_item : starts begins_item (next ts) ≡ true → (i : Item) (us : List Symbol) → item room inner ts ≡ Ok (i, us) → one_item room inner ts ≡ Ok (Some i, us)
   unfolding if_starts bind
   an_item begins i us is = rw begins (rw is refl)

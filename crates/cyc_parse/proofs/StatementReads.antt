@@ -1,4 +1,4 @@
--- Each production of statements is parsed back from its yield if its parts are parsed back from theirs.
+-- Each production of statements is parsed back from its yield if the statements and expressions in it are parsed back from theirs.
 use Rattle.std.proofs.Common.{◌≡◌, ℕ, suc, ◌≤◌, Bool, true, false, cond, ◌&&◌, List, [], ◌∷◌, ◌++◌, Option, Some, None, refl, sym, ap, subst, ◌∙◌, arith, append-nil}
 use Rattle.cyc_syntax.specs.declared.tokens.Keyword.TheVariants as words
 use Rattle.cyc_syntax.specs.declared.tokens.Sign.TheVariants as signs
@@ -25,17 +25,17 @@ use Rattle.cyc_parse.proofs.Openings.{looser}
 pub record EndsStatement (wants : Bool) (ts : List Symbol) : Type 0 where
   pub no_else : wants ≡ true → starts is_else (next ts) ≡ false
 
--- Conditions on the symbols that may follow the items of a block.
+-- Conditions on the symbols that may follow the declarations and statements of a block.
 pub record EndsBlock (ts : List Symbol) : Type 0 where
   pub item : starts begins_item (next ts) ≡ false
   pub no_else : starts is_else (next ts) ≡ false
 
--- Conditions on the symbols that may follow the clauses of a `catch`.
+-- Conditions on the symbols that may follow the clauses of a `catch`, which is the part of a `try` statement that handles exceptions.
 pub record EndsClauses (ts : List Symbol) : Type 0 where
   pub clause : starts begins_clause (next ts) ≡ false
   pub block : EndsBlock ts
 
--- Says that a semicolon follows a returned value.
+-- Says that a semicolon follows the value in a `return` statement.
 pub record EndsValue (ts : List Symbol) : Type 0 where
   pub semicolon : sees signs.Semicolon ts ≡ true
   pub stops : Stops 11 ts
@@ -45,7 +45,7 @@ pub record EndsValue (ts : List Symbol) : Type 0 where
 pub expression_at : (room d : ℕ) → Fits room d → (e : Expression) → IsExpression 11 e → Reads (nested room).expression e (yields.expression d e) (Stops 11)
 expression_at room d fits e is = (all_read e).expression room d fits is
 
--- An operand is also an expression of the loosest operator level.
+-- An operand is also an expression of the loosest precedence level.
 pub loosest : (e : Expression) → IsExpression 0 e → IsExpression 11 e
 loosest e is = looser 0 11 (omega arith) e is
 

@@ -1,4 +1,4 @@
--- Facts about the first symbols of the yields of statements and items.
+-- Facts about the first symbols of the yields of statements and of block items.
 use Rattle.std.proofs.Common.{◌≡◌, ℕ, Bool, true, refl, zero-le}
 use Rattle.cyc_syntax.specs.declared.tokens.Keyword.{Keyword}
 use Rattle.cyc_syntax.specs.declared.tokens.Keyword.TheVariants as words

@@ -1,4 +1,4 @@
--- Conditions on the symbols that may follow an expression of an operator level: they must not continue the expression.
+-- Conditions on the symbols that may follow an expression of a precedence level: they must not continue the expression.
 use Rattle.std.proofs.Common.{◌≡◌, ℕ, ◌≤◌, ◌<◌, Bool, true, false, cond, List, [], ◌∷◌, Option, Some, None, refl, sym, subst, arith}
 use Rattle.std.proofs.lemmas.Bool.{ne_eqb}
 use Rattle.cyc_words.proofs.Numbers.{below_chosen}
@@ -32,7 +32,7 @@ binds_terminal (Number n) = 12
 binds_terminal (Character c) = 12
 binds_terminal (Word k) = 12
 
--- Returns the operator level at which the next symbol continues an expression; region arguments continue `new` and a name.
+-- Returns the precedence level at which the next symbol continues an expression; region arguments continue `new` and a name.
 abbrev pub binds : List Symbol → ℕ
 binds [] = 12
 binds (t ∷ ts) = cond (opens_regions (t ∷ ts)) 0 (binds_terminal t.terminal)
@@ -43,7 +43,7 @@ pub record Stops (k : ℕ) (ts : List Symbol) : Type 0 where
 pub stops-less : (j k : ℕ) (ts : List Symbol) → j ≤ k → Stops k ts → Stops j ts
 stops-less j k ts h s = record { loose = omega arith }
 
--- A symbol other than `<` ends an expression if the symbol binds more loosely than the expression's operator level.
+-- A symbol other than `<` ends an expression if the symbol binds more loosely than the expression's precedence level.
 pub stops_leaf : (k : ℕ) (leaf : Leaf) (ys : Yield) (mid rest : List Symbol) → sees_terminal signs.Less (Some leaf.terminal) ≡ false → k < binds_terminal leaf.terminal
     → Front (leaf ∷ ys) mid rest → Stops k mid
 stops_leaf k leaf ys mid rest plain loose (t, more, e, is_leaf, front) =

@@ -15,7 +15,7 @@ use Rattle.cyc_parse.proofs.Rules.{Front, Reads, Fits, Starts, Always, leaf_of, 
 use Rattle.cyc_parse.proofs.Rules.{choose_reads, advance_reads, advance_reads_at, sees_reads, unseen_reads, starts_reads, unstarted_reads, is_reads, isnt_reads, long_leaf_reads}
 use Rattle.cyc_parse.proofs.RegionReads.{region_list_reads}
 
--- Says that a name follows a type.
+-- Says that the symbol after a type is a name.
 pub record EndsType (ts : List Symbol) : Type 0 where
   pub name : ℕ
   pub comes : next ts ≡ Some (Identifier name)

@@ -13,7 +13,7 @@ pub data Reason : Type 0 where
   Unexpected : Reason
   -- The rejected symbol is nested too deep.
   TooDeep : Reason
-  -- The item that begins at the rejected symbol exceeds the maximal number of items of its list.
+  -- The list element that begins at the rejected symbol exceeds the maximal number of elements of its list.
   TooLong : Reason
 
 -- A rejection has a reason and the symbols left; it is located at the first symbol left, or at the end of the text.

@@ -12,11 +12,11 @@ use Rattle.cyc_parse.specs.Faults.{Reason, Unexpected, TooDeep, TooLong, Refusal
 -- limit of list length, the nesting is reported.
 abbrev pub Breaks : Reason → Leaf → Type 0
 Breaks TooDeep leaf = max_nesting < leaf.nesting
--- The leaf belongs to a list element or operator beyond the maximal length of its list or operator chain.
+-- The leaf belongs to a list element or operator beyond the maximal length of its list or chain of binary operators.
 Breaks TooLong leaf = (leaf.nesting ≤ max_nesting) × (max_items < leaf.item)
 Breaks Unexpected leaf = ⊥
 
--- Says that the leaf after the first `count` leaves breaks the limit, and that the leaves before it keep the limits.
+-- Says that the leaf after the first `count` leaves breaks the limit of the given reason, and that the leaves before it keep all limits.
 pub record BreaksFirst (why : Reason) (leaves : Yield) (count : ℕ) : Type 0 where
   pub before : Yield
   pub leaf : Leaf
@@ -61,23 +61,23 @@ IsAlike symbol back more = symbol.terminal ≡ Mark signs.Less → region_next m
 abbrev pub IsBegun : List Symbol → Symbol → Type 0
 IsBegun front symbol = (more : List Symbol) × (tree : List Declaration) × HasTree (front ++ symbol ∷ more) tree
 
--- Defines the meaning of a rejection's reason, given the symbols before the rejected one and the symbols left.
+-- Defines for each reason of a rejection what it means, given the symbols before the rejected one and the symbols left unread.
 abbrev pub Holds : Reason → List Symbol → List Symbol → Type 0
 -- If no symbol is left, `Unexpected` means that no program ends at the end of the text.
 Holds Unexpected front [] = (tree : List Declaration) → HasTree front tree → ⊥
 -- If a symbol is left, `Unexpected` means that no program begins with the symbols up to and including it.
 Holds Unexpected front (symbol ∷ back) = (more : List Symbol) (tree : List Declaration) → HasTree (front ++ symbol ∷ more) tree → ⊥
--- At the end of the text no limit is broken.
+-- At the end of the text no limit on nesting or list length is broken, since no symbol is left.
 Holds TooDeep front [] = ⊥
 -- `TooDeep` means that some programs begin with the symbols up to the rejected one. In each of these programs the rejected symbol is the
 -- first to break a limit: it is nested too deep.
 Holds TooDeep front (symbol ∷ back) = IsBegun front symbol × ((more : List Symbol) (tree : List Declaration) → HasTree (front ++ symbol ∷ more) tree → BreaksFirst TooDeep (program tree) (length front))
 Holds TooLong front [] = ⊥
 -- `TooLong` means that some programs begin with the symbols up to the rejected one. In each of these programs the rejected symbol is
--- the first to break a limit: it begins an item too many.
+-- the first to break a limit: it begins one list element or operator too many.
 Holds TooLong front (symbol ∷ back) = IsBegun front symbol × ((more : List Symbol) (tree : List Declaration) → IsAlike symbol back more → HasTree (front ++ symbol ∷ more) tree → BreaksFirst TooLong (program tree) (length front))
 
--- Says that the symbols are rejected at the first symbol left, or at their end, for a reason that holds.
+-- Says that the symbols are rejected at the first symbol left unread, or at the end of the text, for a reason whose meaning holds.
 pub record IsRefused (symbols : List Symbol) (refusal : Refusal) : Type 0 where
   pub front : List Symbol
   pub are : symbols ≡ front ++ refusal.left

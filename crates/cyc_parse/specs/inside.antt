@@ -5,7 +5,7 @@ pub mod Expressions
 pub mod Statements
 pub mod Declarations
 pub mod Answers
--- Relates the parser's code to the specified parser of symbols.
+-- States how the results of the parser's code correspond to those of the specified parser of symbols.
 pub mod Code
 pub mod Boxes
 pub mod Steps

@@ -157,7 +157,7 @@ impl<'a> Parser<'a> {
         self.advance()
     }
 
-    /// Reads the wanted sign (punctuation token), if it comes next.
+    /// Reads the given sign (punctuation token), if it comes next.
     pub(crate) fn take_if(&mut self, wanted: Sign) -> Option<Span>
         ensures seen { sees wanted self.old ≡ is_some result }
         ensures taken { IfSome result (λ span. (room : ℕ) → sign (suc room) wanted self.old ≡ Ok (place_of_span span, self.new)) }
@@ -260,7 +260,7 @@ impl<'a> Parser<'a> {
     }
 }
 
-/// Returns the rejection for the given reason if an item begins at the next symbol; otherwise the symbol is unexpected.
+/// Returns the rejection for the given reason if a list element begins at the next symbol; otherwise the symbol is rejected as unexpected.
 pub(crate) fn refusal(begins: bool, why: Reason) -> Stop
     ensures { result ≡ Refused (if begins then why else reasons.Unexpected) }
 {

@@ -94,7 +94,8 @@ impl<'a> Parser<'a> {
         self.parse_assignment(room, target)
     }
 
-    // If an error occurs, the compiled code drops each value that the function holds. The expression is in a box, so one call drops it.
+    // If an error occurs, the compiled code drops each value that the parsing function holds. The parsed expression is in a box, so one
+    // call drops it.
 
     /// Puts an expression into a box.
     pub(crate) fn node(&self, value: Expr) -> Result<Box<Expr>, Stop>

@@ -1,10 +1,10 @@
-//! Lists that grow by one item at a time.
+//! This file has lists to which elements are appended one at a time.
 ghost use Rattle.std.specs.Prelude.{◌≡◌, [], ◌∷◌, ◌++◌, is_ok, if◌then◌else◌};
 
 use std::alloc::AllocError;
 
-/// Appends an item to a list. Most lists of a program are short, so a list first gets capacity for two items, and twice as much each
-/// time it is full.
+/// Appends an element to a list. Most lists of a program are short, so a list first gets capacity for two elements, and twice as
+/// much each time it is full.
 pub(crate) fn append<T: Drop>(list: &mut Vec<T>, item: T) -> Result<(), AllocError>
     ensures items { list.new.items ≡ (if is_ok result then list.old.items ++ item ∷ [] else list.old.items) }
 {

@@ -1,4 +1,4 @@
-//! The parser of `try` with its clauses.
+//! The parser of `try` statements with their catch clauses.
 #![tactic(auto, unfolding(crate::specs::inside::Parsing::bind, crate::specs::inside::Parsing::choose, crate::specs::inside::Parsing::if_sees, crate::specs::inside::Parsing::if_starts, crate::specs::inside::Parsing::refuse_item, crate::specs::inside::Expressions::nested, crate::specs::inside::Statements::nested_statements), using(crate::proofs::StatementLevels::nested_statement, crate::proofs::StatementLevels::nested_items))]
 
 ghost use Rattle.std.specs.Prelude.{◌≡◌, true, length, option_map, is_some};
@@ -123,7 +123,7 @@ impl<'a> Parser<'a> {
         })
     }
 
-    /// Parses the clauses of a `catch`, at least one.
+    /// Parses the catch clauses after `catch`, at least one.
     #[cycle(statement)]
     fn parse_clauses(&mut self, room: u32) -> Result<Handlers, Stop>
         ensures { Gives (λ h. clauses_of h.clauses.items (default_of h.default)) result (clauses room (nested_statements room) self.old) self.new }
@@ -134,7 +134,7 @@ impl<'a> Parser<'a> {
         self.parse_handlers(room)
     }
 
-    /// Reads the closing brace after the clauses of a `try`.
+    /// Reads the closing brace after the catch clauses of a `try`.
     fn end_try(
         &mut self,
         room: u32,

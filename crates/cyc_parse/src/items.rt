@@ -1,4 +1,4 @@
-//! The parser of blocks and of their items.
+//! The parser of blocks, and of the declarations and statements in them.
 #![tactic(auto, unfolding(crate::specs::inside::Parsing::bind, crate::specs::inside::Parsing::choose, crate::specs::inside::Parsing::if_sees, crate::specs::inside::Parsing::if_starts, crate::specs::inside::Parsing::refuse_item, crate::specs::inside::Expressions::nested, crate::specs::inside::Statements::nested_statements), using(crate::proofs::StatementLevels::nested_statement, crate::proofs::StatementLevels::nested_items))]
 
 ghost use Rattle.std.specs.Prelude.{◌≡◌, option_map};
@@ -39,7 +39,7 @@ impl<'a> Parser<'a> {
         }
     }
 
-    /// Parses the items of a block.
+    /// Parses the declarations and statements of a block.
     #[cycle(statement)]
     pub(crate) fn parse_items(&mut self, room: u32) -> Result<Vec<Item>, Stop>
         ensures { Gives (λ v. items_of v.items) result ((nested_statements room).items self.old) self.new }
@@ -55,7 +55,7 @@ impl<'a> Parser<'a> {
 
     // ---- blocks
 
-    /// Reads the closing brace after the items of a block.
+    /// Reads the closing brace after the declarations and statements of a block.
     fn end_block(&mut self, room: u32, span: Span, items: Vec<Item>) -> Result<Block, Stop>
         ensures { Gives view_block result (end_of_block room (nested_statements room) (place_of_span span) (items_of items.items) self.old) self.new }
     {
@@ -181,7 +181,7 @@ impl<'a> Parser<'a> {
         Ok(Item::DynamicRegion { region, key })
     }
 
-    /// Parses an item after `let`: an alias declaration or the declaration of a dynamic region.
+    /// Parses a block item after `let`: an alias declaration or the declaration of a dynamic region.
     fn parse_let_item(&mut self, room: u32) -> Result<Item, Stop>
         ensures { Gives view_item result (let_item room (nested_statements room) self.old) self.new }
     {

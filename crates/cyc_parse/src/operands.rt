@@ -387,7 +387,7 @@ impl<'a> Parser<'a> {
         self.parse_long_operand(room)
     }
 
-    /// Parses an operand with its prefixes and postfixes, one part at a time.
+    /// Parses an operand of any form, with its prefix operators and its postfixes.
     #[cycle(expression)]
     #[tactic(auto, unfolding(crate::specs::inside::Expressions::unary, crate::specs::inside::Parsing::choose, crate::specs::inside::Parsing::bind))]
     fn parse_long_operand(&mut self, room: u32) -> Result<Box<Expr>, Stop>

@@ -70,8 +70,8 @@ impl<'a> Parser<'a> {
             || level_between(sign, 0, below).is_some()
     }
 
-    /// Takes an operand of the operator level above `below` if it is a single number or name. Most operands are single numbers
-    /// or names, and need no box.
+    /// Takes an operand of the precedence level above `below` if it is a single number or name. Most operands are single
+    /// numbers or names, and need no box.
     fn take_lone_operand(&mut self, below: u32) -> Option<Expr>
         requires { below < 10 }
         ensures taken { IfSome result (λ e. (room : ℕ) → operand room (nested room) below self.old ≡ Ok (view_expression e, self.new)) }
@@ -152,7 +152,7 @@ impl<'a> Parser<'a> {
         Ok(operations)
     }
 
-    /// Extends a first operand by the operators of all levels up to the given one.
+    /// Extends a first operand by the operators of all precedence levels up to the given one, with their right operands.
     #[cycle(expression)]
     pub(crate) fn climb(
         &mut self,
@@ -166,8 +166,8 @@ impl<'a> Parser<'a> {
         self.climb_above(room, 0, level, first)
     }
 
-    /// Extends an operand by the operators of the levels above `below`, up to another given level. Levels that the next
-    /// operator does not belong to are skipped.
+    /// Extends an operand by the operators of the precedence levels above `below`, up to another given level. Levels to
+    /// which the next operator does not belong are skipped.
     #[cycle(expression)]
     fn climb_above(
         &mut self,

@@ -55,7 +55,7 @@ impl<'a> Parser<'a> {
         Ok(Box::new(self.alloc(), statement)?)
     }
 
-    /// Reads the wanted sign (punctuation token), which stands one nesting level deeper than the current level.
+    /// Reads the given sign (punctuation token), which stands one nesting level deeper than the current level.
     pub(crate) fn take_sign_deeper(&mut self, room: u32, wanted: Sign) -> Result<Span, Stop>
         ensures { Gives place_of_span result (sign (inside room) wanted self.old) self.new }
     {
@@ -303,7 +303,7 @@ impl<'a> Parser<'a> {
     }
 }
 
-/// Returns the number of nesting levels left inside one more bracket.
+/// Returns the number of nesting levels that are left inside one more pair of brackets.
 pub(crate) fn inside(room: u32) -> u32
     ensures { result ≡ inside room }
 {

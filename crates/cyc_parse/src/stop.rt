@@ -1,4 +1,4 @@
-//! The reasons why a parse stops.
+//! The reasons why parsing ends without a tree: a rejected symbol, or lack of memory.
 ghost use Rattle.std.specs.Prelude.{◌≡◌};
 ghost use Rattle.cyc_parse.specs.declared.stop.Stop.TheVariants.{Memory};
 
@@ -11,7 +11,7 @@ pub(crate) enum Reason {
     Unexpected,
     /// The rejected symbol is nested too deep.
     TooDeep,
-    /// The item that begins at the rejected symbol exceeds the maximal number of items of its list.
+    /// The list element that begins at the rejected symbol exceeds the maximal number of elements of its list.
     TooLong,
 }
 

@@ -23,9 +23,9 @@ use std::alloc::{AllocError, Global};
 
 /// Parses the tokens of a text into its tree, or returns its fault.
 ///
-/// A token is rejected if no program continues with it. A token is also rejected if it is nested too deep, or if it exceeds the maximal
-/// number of items of its list. The end of the text is rejected if its tokens are not yet a program. Any growth of the tree may fail for
-/// lack of memory.
+/// A token is rejected if no program continues with it. A token is also rejected if it is nested too deep, or if it begins one element
+/// more than the maximal number in a list. The end of the text is rejected if its tokens are not yet a program. Any growth of the tree
+/// may fail for lack of memory.
 pub fn parse(alloc: Global, tokens: &[Token], text: &[u8]) -> Result<Tree, Fault>
     requires short { length text.now ≤ max_bytes }
     requires tokens { AreTokensOf text.now tokens.now }

@@ -14,7 +14,7 @@ use crate::symbol::Terminal;
 use cyc_syntax::{BaseType, Ident, Keyword, Pointer, PointerKind, Sign, WrittenType};
 use cyc_words::Span;
 
-/// The maximal number of items of a list.
+/// The maximal number of elements of a list, such as the arguments of a call.
 pub(crate) const MAX_ITEMS: u32 = 64;
 
 impl<'a> Parser<'a> {

@@ -70,8 +70,8 @@ impl Functions<'_> {
         Ok(())
     }
 
-    /// Writes the lines of all functions: those that begin in one of the given stretches of code (ranges of words with one
-    /// origin) and those without words.
+    /// Writes the lines of all functions: those that begin in one of the given ranges of machine words, each made for one
+    /// source construct, and those without words.
     fn write_all<W: fmt::Write>(
         &self,
         stretches: &[Stretch],

@@ -1,5 +1,5 @@
-//! Files of places: they state, as lines of text, the source position or other origin of each word of an image's text. The format of files
-//! of places is described in `docs/PLACES.md`.
+//! Files of places state, as lines of text, the source position or other source of each word of an image's text. The format of files of
+//! places is described in `docs/PLACES.md`.
 #![tactic(auto)]
 
 pub use functions::Functions;

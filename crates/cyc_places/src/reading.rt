@@ -29,9 +29,9 @@ impl fmt::Display for Named {
 /// The beginning of a part of the program text that comes from another file.
 #[derive(Drop)]
 pub struct Elsewhere {
-    /// The first line of the part, as a line number in the whole text.
+    /// The first line of a stretch of program text that comes from another file, as a line number in the whole text.
     pub first: u32,
-    /// The number of the part's first line in the file that it comes from.
+    /// The number, within the other file, of the first line of a stretch of program text that comes from this file.
     pub line: u32,
     pub file: Vec<u8>,
 }
@@ -41,7 +41,7 @@ pub struct Elsewhere {
 pub struct Table {
     /// The name of the source file.
     pub source: Vec<u8>,
-    /// The parts of the text that come from other files, in order.
+    /// The stretches of the program text that come from other files, in order.
     pub parts: Vec<Elsewhere>,
     pub sum: u64,
     /// The declared exceptions, in the order of their identifying numbers.
@@ -49,7 +49,7 @@ pub struct Table {
     /// The names of the functions, in the order of their indices.
     pub functions: Vec<Named>,
     pub stretches: Vec<Stretch>,
-    /// The first address after all stretches of code (ranges of words with one origin).
+    /// The first address after all stretches of code (ranges of machine words, each made for one source construct).
     pub end: u32,
 }
 
@@ -73,7 +73,7 @@ fn number_in(digits: &[u8], base: u64) -> Option<u64> {
     Some(number)
 }
 
-/// Returns the 32-bit number that a word of a line represents.
+/// Returns the 32-bit number that a space-separated word of a text line represents.
 fn small_in(word: Option<&[u8]>, base: u64) -> Option<u32> {
     u32::try_from(number_in(word?, base)?).ok()
 }
@@ -91,7 +91,8 @@ fn span_in(line: &[u8], number: usize) -> Option<Span> {
     })
 }
 
-/// Returns the origin of code that a line of text states after an address, and the index of the next word in the line.
+/// Returns the source construct of code, which a line of text states after the address of the code, and the index of
+/// the next word in the line.
 fn source_in(line: &[u8]) -> Option<(Source, usize)> {
     let first = word_in(line, 1);
     if first == Some(b"start") {
@@ -119,7 +120,7 @@ fn site_in(line: &[u8], number: usize) -> Option<Site> {
     })
 }
 
-/// Returns the stretch of code (a range of words with one origin) that a line of text describes.
+/// Returns the stretch of code (machine words made for one source construct) that a line of text describes.
 fn stretch_in(line: &[u8], address: u32) -> Option<Stretch> {
     let (source, following) = source_in(line)?;
     let site = match word_in(line, following) {
@@ -197,7 +198,8 @@ impl Table {
         }
     }
 
-    /// Adds the contents of one line to the table; the line is not the file's first line.
+    /// Adds what one line of a file of places (the map from code addresses to source positions) states to the table; the line is not the
+    /// file's first line.
     fn add(&mut self, alloc: Global, line: &[u8]) -> Result<(), Unread> {
         let name = word_in(line, 1).unwrap_or(b"");
         match word_in(line, 0) {

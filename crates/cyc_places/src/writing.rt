@@ -28,11 +28,11 @@ pub fn sum_of(bytes: &[u8]) -> u64 {
 /// The beginning of a part of the program text that comes from another file.
 #[derive(Clone, Copy)]
 pub struct Part<'a> {
-    /// The first line of the part, as a line number in the whole text.
+    /// The first line of a stretch of program text that comes from another file, as a line number in the whole text.
     pub first: u32,
-    /// The number of the part's first line in the file that it comes from.
+    /// The number, within the other file, of the first line of a stretch of program text that comes from this file.
     pub line: u32,
-    /// The name of the file that the part comes from.
+    /// The name of the other file from which a stretch of the program text comes.
     pub name: &'a str,
 }
 
@@ -42,7 +42,7 @@ pub struct Part<'a> {
 pub struct PlacesText<'a> {
     /// The name of the source file.
     pub name: &'a str,
-    /// The parts of the text that come from other files, in order.
+    /// The stretches of the program text that come from other files, in order.
     pub parts: &'a [Part<'a>],
     pub text: &'a [u8],
     /// The tokens of the program text, in order.
@@ -82,7 +82,7 @@ impl PlacesText<'_> {
     }
 }
 
-/// Writes the line of text for a stretch of code, that is, for a range of words with one origin.
+/// Writes the line of text for a stretch of code, that is, for machine words made for one source construct.
 fn write_stretch<W: fmt::Write>(stretch: &Stretch, f: &mut fmt::Formatter<W>) -> fmt::Result {
     write!(f, "{:08x} ", stretch.address)?;
     match stretch.source {

@@ -1,4 +1,4 @@
--- In every state of a run, the slots of each call lie below those of its caller.
+-- In every state of a run, the slots of each call have lower addresses than those of its caller.
 use Rattle.std.proofs.Common.{ℕ, zero, suc, ◌%◌, List, [], ◌∷◌, Option, None, Some, sym, subst}
 use Rattle.std.specs.Prelude.{◌==◌, if◌then◌else◌}
 use Rattle.cyc_words.specs.Ending.{Uncaught}
@@ -135,8 +135,8 @@ below_step program pages calls old new lie (choice, allowed, is) =
     steps (Ended ending output input) lie may = tt
     steps (Stuck output input) lie may = tt
 
--- If the slots of `main` lie in the range of slots at the start, the slots of each call lie below those of its
--- caller in every state of a run.
+-- If the slots of `main` lie in the address range of slots, each call's slots have lower addresses than its
+-- caller's in every state of a run.
 pub below_run : (program : Program) (pages calls n : ℕ) (old new : State) → LieBelow program old → Run (machine program pages calls) n old new → LieBelow program new
 below_run program pages calls zero old new lie run = subst (LieBelow program) (sym run) lie
 below_run program pages calls (suc n) old new lie (mid, stepped, rest) =

@@ -44,7 +44,7 @@ empty_store = stores.start 3 (λ (address : ℕ). 0)
 abbrev after : ℕ → ℕ → Program → List ℕ → State
 after steps calls p input = run p 3 calls zeros steps (start p 0x7ffff000 empty_store input)
 
--- A store (heap) with a single block of two words, in which the following examples start.
+-- A store (heap of regions) with a single block of two words, in which the following examples start.
 abbrev two_words : StoreState
 two_words = stores.made_in empty_store 1 (record { address = 0x20000000; size = 2 })
 

@@ -93,7 +93,7 @@ pinned-inside program well function slot pinned =
 
 -- ---- waiting calls
 
--- The slots of a call lie below those of the calls that wait for it.
+-- The slots of a call have lower addresses than those of the calls that wait for it.
 pub below-waiting : (program : Program) (function base : ℕ) (frames : List Frame) (k : ℕ) (f : Frame) → AreBelow program function base frames → slice_get frames k ≡ Some f
     → base + 4 * (routine_at program function).slots ≤ f.caller.base
 below-waiting program function base [] k f below at = absurd (let e : None ≡ Some f = at in cc)
@@ -111,7 +111,7 @@ pub below-low : (program : Program) (function base : ℕ) (frames : List Frame) 
 below-low program function base [] below = below.low
 below-low program function base (f ∷ frames) (first, rest) = first.low
 
--- The slots of a waiting call lie below the slots of the calls that wait for it.
+-- The slots of a waiting call have lower addresses than the slots of the calls that wait for it.
 pub below-there : (program : Program) (function base : ℕ) (frames : List Frame) (k : ℕ) (f : Frame) → AreBelow program function base frames → slice_get frames k ≡ Some f
     → (others : List Frame) × AreBelow program f.caller.function f.caller.base others
 below-there program function base [] k f below at = absurd (let e : None ≡ Some f = at in cc)
@@ -140,7 +140,7 @@ found-waiting program well function base (h ∷ frames) (suc k) f slot (first, r
     ap (λ (o : Option ℕ). word_or o h.caller.slots (word_waiting program frames (f.caller.base + 4 * slot))) hidden
     ∙ found-waiting program well h.caller.function h.caller.base frames k f slot rest at pinned
 
--- Returns the waiting call in which one slot contains a new word.
+-- Returns a waiting call with a new word stored in one of its slots.
 abbrev pub with_slot_of : Frame → (slot word : ℕ) → Frame
 with_slot_of f slot word = record f { caller = record f.caller { slots = put f.caller.slots slot word } }
 
@@ -259,7 +259,7 @@ module _ (program : Program) (c : Configuration) (a word : ℕ) (there : store_w
   written-stored new = ap (with_word program c a new) in-store
 
 module _ (program : Program) (well : IsWellFormed program) (c : Configuration) where
-  -- The address of each global belongs to this global only.
+  -- A lookup of the address of a global finds exactly this global.
   global-there : (number : ℕ) → number < length program.globals → global_at program (GLOBALS_BASE + 4 * number) ≡ Some number
   global-there number below = numbered-there (λ (n : ℕ). nat_lt n (length program.globals)) GLOBALS_BASE number (lt-ltb number (length program.globals) below)
 
@@ -274,7 +274,7 @@ module _ (program : Program) (well : IsWellFormed program) (c : Configuration) w
       ∙ ap (λ (o : Option ℕ). with_global c o word) (global-there number below)
 
   module _ (lie : AreBelow program c.active.function c.active.base c.frames) where
-    -- The address of each slot of the active call belongs to this slot only, if the code takes its address.
+    -- A lookup of the address of a slot of the active call finds exactly this slot, if the code takes its address.
     active-there : (slot : ℕ) → is_pinned (routine_at program c.active.function).code slot ≡ true → slot_at program c.active (c.active.base + 4 * slot) ≡ Some slot
     active-there slot pinned = numbered-there (is_pinned (routine_at program c.active.function).code) c.active.base slot pinned
 
@@ -292,7 +292,7 @@ module _ (program : Program) (well : IsWellFormed program) (c : Configuration) w
         ap (with_word program c (c.active.base + 4 * slot) word) (active-range slot)
         ∙ ap (λ (o : Option ℕ). with_slot program c o (c.active.base + 4 * slot) word) (active-there slot pinned)
 
-    -- The module shows that the address of a waiting call's slot belongs to this slot only, if the code takes its address.
+    -- The module shows that a lookup of the address of a waiting call's slot finds exactly this slot, if the code takes its address.
     module _ (k : ℕ) (f : Frame) (at : slice_get c.frames k ≡ Some f) where
       above : c.active.base + 4 * (routine_at program c.active.function).slots ≤ f.caller.base
       above = below-waiting program c.active.function c.active.base c.frames k f lie at

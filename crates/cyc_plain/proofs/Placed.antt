@@ -82,7 +82,7 @@ return_is_placed : (program : Program) (c : Configuration) (value results : ℕ)
 return_is_placed program c value results [] waiting = tt
 return_is_placed program c value results (f ∷ frames) (first, rest) = (first.0, first.1, rest)
 
--- A store to a waiting call's slot leaves the call's next instruction unchanged.
+-- A store to a slot of a waiting call leaves unchanged at which instruction the call continues.
 waiting_written : (program : Program) (frames : List Frame) (address word : ℕ) → AllByRecursion (IsWaiting program) frames → AllByRecursion (IsWaiting program) (with_waiting program frames address word)
 waiting_written program [] address word waiting = tt
 waiting_written program (f ∷ frames) address word (first, rest) = go (slot_at program f.caller address) (waiting_written program frames address word rest)
@@ -240,8 +240,8 @@ placed_start program base store input well = ((well.main, has_code program (rout
 running_not_failed : (c : Configuration) → simulation.Running ≡ simulation.Failed → ⊥
 running_not_failed c e = cc
 
--- `Stops` lists the four reasons for which a run can get stuck: a division by 0, an access to an
--- address without a word, a refused request, and an instruction on exception handlers.
+-- `Stops` lists the four reasons for which a run can get stuck: a division by 0, an access to an address without a word, a refused request,
+-- and an instruction on exception handlers.
 abbrev Stops : Program → State → Type 0
 Stops program s = DividesByZero program s ⊎ (AsksForNoWord program s ⊎ (AsksInVain program s ⊎ AsksForHandlers program s))
 

@@ -215,7 +215,8 @@ limited_steps program pages calls old new (choice, allowed, is) =
 
 -- ---- ended runs
 
--- Returns a choice of zeros, which is allowed for a step that calls neither a function nor the store.
+-- Returns the choice of zeros for all values that a step leaves open. The choice of zeros is allowed
+-- for a step that calls neither a function nor the store.
 abbrev pub zeros : Choice
 zeros = record {
   contents = λ (slot : ℕ). 0;
@@ -231,7 +232,7 @@ lies_none : (program : Program) (base : ℕ) (callee : Option ℕ) (s : State) �
 lies_none program base None s none = tt
 lies_none program base (Some function) s none = absurd (let e : Some function ≡ None = none in cc)
 
--- An instruction that calls no function allows any choice of the address of a new call.
+-- A step that calls no function is allowed with any choice of the address for a new call's slots.
 pub lies_at : (program : Program) (c : Configuration) (i : Instruction) (base : ℕ) → instruction_at program (place_of (Running c)) ≡ Some i → callee_of (Some i) ≡ None
     → MayLie program base (called program (Running c)) (Running c)
 lies_at program c i base at free = lies_none program base (called program (Running c)) (Running c) (ap callee_of at ∙ free)
@@ -266,7 +267,7 @@ over_calls program (Running c) ending ended = absurd (let e : simulation.Running
 over_calls program (Ended other output input) ending ended = refl
 over_calls program (Stuck output input) ending ended = refl
 
--- If the store refuses a request, any choice of the store is allowed.
+-- If the store (heap of regions) refuses a request, the step is allowed with any choice of handle, address and memory contents.
 refused_serves : (serving : services.Choice) (call : Call) (why : Refusal) (c : Configuration) → refusal c.store call ≡ Some why → MayServe serving (Some call) (Running c)
 refused_serves serving call why c refused none = absurd (let e : Some why ≡ None = sym refused ∙ none in cc)
 
@@ -290,7 +291,7 @@ calling_asks slots None function calls = refl
 calling_asks slots (Some (instructions.Ask request)) function calls = absurd (let e : None ≡ Some function = calls in cc)
 calling_asks slots (Some i) function calls = refl
 
--- A call of a function allows the choice of any address below the caller's slots with space for the callee's slots.
+-- At a call, the callee's slots may be at any address below the caller's slots that leaves space for them.
 pub called_at : (program : Program) (c : Configuration) (function : ℕ) (choice : Choice) → called program (Running c) ≡ Some function → AreWords choice.contents
     → IsBelow program function choice.base c.active.base → IsAllowed program (Running c) choice
 called_at program c function choice calls contents below = record {

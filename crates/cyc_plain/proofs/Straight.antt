@@ -39,7 +39,7 @@ has_from front (i ∷ code) =
           (subst (λ l. HasAt l (length (front ++ i ∷ [])) code) (append_assoc front (i ∷ []) code) (has_from (front ++ i ∷ []) code)),
     )
 
--- Every code contains itself at index 0.
+-- Every code contains all of its own instructions from index 0 on.
 pub has_whole : (code : List Instruction) → HasAt code 0 code
 has_whole code = has_from [] code
 
@@ -53,7 +53,7 @@ record Keeps (c d : Configuration) : Type 0 where
   pub frames : d.frames ≡ c.frames
   pub store : d.store ≡ c.store
 
--- `IsOne` says that a straight-line instruction leads to the same configuration for every choice.
+-- `IsOne` says that a straight-line instruction leads to the same configuration whatever values the step chooses for what it leaves open.
 record IsOne (program : Program) (choice : Choice) (c : Configuration) (i : Instruction) : Type 0 where
   pub gives : (other : Choice) → performed program other c i ≡ Running (configuration_or (performed program choice c i) c)
   pub keeps : Keeps c (configuration_or (performed program choice c i) c)

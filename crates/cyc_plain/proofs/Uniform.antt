@@ -17,7 +17,8 @@ use Rattle.cyc_plain.specs.inside.Step.{Choice, IsAllowed, IsServed, MayServe, c
 use Rattle.cyc_plain.specs.inside.Uniform.{AsksNoRoom, UniformStep, uniform_machine}
 use Rattle.cyc_plain.proofs.RunLaws.{limited-within, over_within, lawful}
 
--- On the uniform machine, if the instruction is known and its effect is within the limits for every choice, each step has this effect.
+-- On the machine whose limit of calls never changes, each step has the effect of its known instruction, if every choice keeps this
+-- effect within the limits.
 pub uniform_performs : (program : Program) (pages calls : ℕ) (c : Configuration) (i : Instruction) (new : State)
     → instruction_at program (place_of (Running c)) ≡ Some i
     → ((choice : Choice) → is_within pages calls (performed program choice c i) ≡ true)
@@ -28,8 +29,8 @@ uniform_performs program pages calls c i new at within (choice, allowed, is) =
     let keeps : is_within pages calls (step program choice (Running c)) ≡ true = ap (is_within pages calls) does ∙ within choice in
     (choice, allowed, is ∙ limited-within pages calls (Running c) (step program choice (Running c)) keeps ∙ does)
 
--- The module shows that a step of the uniform machine with a request serves it by a choice that the store
--- allows, or ends the run if memory is lacking.
+-- The module concerns requests on the machine whose limit of calls never changes. A step serves the request by a handle, an address and
+-- memory contents that the store allows, or ends the run if memory is lacking.
 module _ (program : Program) (pages calls : ℕ) (c : Configuration) (request : Request) (new : State)
     (at : instruction_at program (place_of (Running c)) ≡ Some (instructions.Ask request)) (stepped : UniformStep program pages calls (Running c) new) where
   abbrev call : Call

@@ -44,7 +44,7 @@ pub fn output_grows()
 {}
 
 /// From every state there is a step, with two exceptions: the instruction calls a function and the stack has no space for its slots, or
-/// it makes a request that the store serves. (For a request, the relation describes the allowed choices, and the store promises that one
+/// it makes a request that the store serves. (For a request, the relation describes the allowed results, and the store promises that one
 /// exists.)
 pub fn steps_go_on()
     ensures free { (program : Program) (pages calls : ℕ) (old : State) → asked program old ≡ None → called program old ≡ None
@@ -95,8 +95,8 @@ pub fn room_is_not_asked()
         → UniformStep program pages calls old new → Step program pages calls old new }
 {}
 
-/// A request that the store does not refuse is served by a choice that the store allows, and the run continues with the result. If
-/// memory is lacking, the run ends.
+/// A request that the store does not refuse gets a handle, an address and memory contents that the store allows, and the run
+/// continues with the result. If memory is lacking, the run ends.
 pub fn calls_are_served()
     ensures served { (program : Program) (pages calls : ℕ) (c : Configuration) (request : Request) (new : State)
         → instruction_at program (place_of (state.Running c)) ≡ Some (instructions.Ask request)
@@ -129,7 +129,8 @@ pub fn values_are_words()
         → HoldsWords new }
 {}
 
-/// In each state of a run, the slots of each call lie below those of its caller, if the slots of `main` lie in the range of slots.
+/// In each state of a run, each call's slots have lower addresses than its caller's, if the slots of `main` lie in the address
+/// range of slots.
 pub fn calls_lie_apart()
     ensures { (program : Program) (pages calls count base : ℕ) (store : StoreState) (input : List ℕ) (new : State)
         → IsBelow program program.main base slots_end → Run (machine program pages calls) count (start program base store input) new → LieBelow program new }
@@ -156,8 +157,8 @@ pub fn places_are_listed()
         → Contains (places_of program) place }
 {}
 
-/// Each run through straight-line code reaches the configuration that the code determines, for every choice, and executes no
-/// instruction twice.
+/// Each run through straight-line code reaches the configuration that the code determines, whatever values the steps choose,
+/// and executes no instruction twice.
 pub fn straight_code_runs()
     ensures runs { (program : Program) (pages calls : ℕ) (choice : Choice) (is : List Instruction) (c : Configuration) (new : State) → AreStraight is
         → HasAt (routine_at program c.active.function).code c.active.next is → is_within pages calls (state.Running c) ≡ true

@@ -65,7 +65,7 @@ impl Plain {
         }
     }
 
-    /// Returns the parts of a plain program, from which a pass builds another program.
+    /// Returns the functions, the globals and the index of `main` of a plain program, from which a pass builds another program.
     pub fn into_parts(self) -> Parts
         ensures value { program_of result.functions.items result.globals.items result.main ≡ self }
         ensures plain { IsPlain self }

@@ -59,7 +59,7 @@ fn number_below(count: usize, address: u32) -> Option<usize>
     Some(word)
 }
 
-/// Returns the first free slot for a block of a size class, and the slots that remain free.
+/// Returns the first free slot for a block of a size class (a power of two of words), and the slots of this class that remain free.
 #[inline]
 fn next_slot(slots: ClassSlots, words: &Vec<u32>, class: u32) -> (u32, ClassSlots)
     requires class { class ≤ 10 }
@@ -317,7 +317,7 @@ impl PlainStore {
         }
     }
 
-    /// Frees the live unique block of the given size class that begins at the given word.
+    /// Frees the live unique block that begins at the word with the given index and has the given size class.
     fn empty(&mut self, word: u32, class: u32)
         requires { lookup address_of self.old.blocks.unique (STORE_BASE + 4 * word) ≡ Some (record { address = STORE_BASE + 4 * word; size = 2 ^ class }) }
         ensures { Serves (held_of self.old) (Free (STORE_BASE + 4 * word)) Done (held_of self.new) }

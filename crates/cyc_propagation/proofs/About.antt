@@ -1,4 +1,4 @@
--- The bit mask of mentioned slots contains each slot that a fact mentions, so writing a slot outside the mask preserves all facts.
+-- The bit mask of a list of facts contains each slot that occurs in a fact, so writing a slot outside the mask keeps all facts true.
 use Rattle.std.proofs.Common.{◌≡◌, ℕ, ◌-◌, ◌^◌, ◌%◌, ◌<◌, Bool, true, false, List, [], ◌∷◌, drop, length, Option, Some, None, refl, ap, sym, ◌∙◌, arith, inl, inr}
 use Rattle.std.specs.Prelude.{◌==◌, ◌&&◌, bit_and, bit_or, if◌then◌else◌, nat_lt}
 use Rattle.std.specs.Int.{bit_at}

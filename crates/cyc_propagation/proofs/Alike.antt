@@ -11,7 +11,7 @@ use Rattle.cyc_plain.specs.inside.State.{Activation, Frame, Configuration, Runni
 use Rattle.cyc_plain.specs.inside.Memory.{pins, is_pinned, global_at, slot_at, word_or, word_waiting, put_or, with_waiting, Range, OfGlobals, OfStore, OfSlots, range_of, word_in, memory_at, with_global, with_slot, with_word, with_memory}
 use Rattle.cyc_plain.specs.inside.Step.{Choice, operand_word, returns, finishes, loads, saves, loads_byte, saves_byte, advanced, performed}
 
--- If corresponding instructions of two codes take the addresses of the same slots, the two codes take the addresses of the same slots.
+-- Two instruction sequences take the addresses of the same slots, if each two corresponding instructions of them do.
 pub pinned_alike : (slot : ℕ) (code others : List Instruction) → length others ≡ length code
     → ((index : ℕ) (i : Instruction) → slice_get code index ≡ Some i → (j : Instruction) × (slice_get others index ≡ Some j) × (pins j slot ≡ pins i slot))
     → is_pinned others slot ≡ is_pinned code slot

@@ -1,4 +1,4 @@
--- A jump target requires only facts that are known on every path to this target.
+-- The facts recorded as required at a jump target are only facts that are known on every path to this target.
 use Rattle.std.proofs.Common.{◌≡◌, ℕ, zero, suc, ◌+◌, ◌<◌, Bool, true, List, [], ◌∷◌, ◌++◌, length, drop, Option, Some, None, slice_get, refl, sym, subst, arith, inl, inr}
 use Rattle.std.specs.Prelude.{◌||◌, remove, set, take, if◌then◌else◌}
 use Rattle.std.proofs.lemmas.Bool.{and_from, and_parts, eq-eqb, false≢true, or_cases, or_left, or_right}

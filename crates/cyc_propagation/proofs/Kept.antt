@@ -86,7 +86,7 @@ module _ (program simplified : Program) (replaced : (function : ℕ) → IsRepla
         left next (scene_of program d) led (λ slot leaves. ap (λ (slots : Words). slots slot) same)
         (subst (IsUntouched (scene_of program c) (scene_of program d)) (sym none) (same_memory d alike same)) makes
 
-    -- The preserved facts stay true if an instruction writes a word to a slot.
+    -- The facts that an instruction preserves stay true if the instruction writes a word to a slot.
     by_slot : (d : Configuration) (destination word : ℕ) → IsAlike c d → d.active.slots ≡ put old destination word
         → IsUntouched (scene_of program c) (scene_of program d) (touched_by slots_free destination)
     by_slot d destination word alike is =
@@ -98,7 +98,7 @@ module _ (program simplified : Program) (replaced : (function : ℕ) → IsRepla
         other free slot named same =
             false≢true (sym (states.free_unnamed program simplified replaced c.active.function destination free) ∙ ap (is_pinned (routine_at program c.active.function).code) (sym same) ∙ named)
 
-    -- The preserved facts stay true if an instruction writes words to consecutive slots.
+    -- The facts that an instruction preserves stay true if the instruction writes words to consecutive slots.
     by_slots : (d : Configuration) (source count destination : ℕ) → IsAlike c d → d.active.slots ≡ copied old source count old destination
         → IsUntouched (scene_of program c) (scene_of program d) (touched_by_words slots_free destination count)
     by_slots d source count destination alike is =
@@ -146,7 +146,7 @@ module _ (program simplified : Program) (replaced : (function : ℕ) → IsRepla
       abbrev after_store : Configuration
       after_store = advanced (with_memory program c address word)
 
-      -- Combines the slots before a store instruction with the memory after it.
+      -- Combines the words of a call's slots before a store instruction with the words of memory after this instruction.
       abbrev between : Scene
       between = record { slots = old; memory = memory_at program after_store }
 
@@ -177,7 +177,8 @@ module _ (program simplified : Program) (replaced : (function : ℕ) → IsRepla
           fact_free between (scene_of program after_store) slots_free free_left (λ other. refl) fact suits
           (ap (memory_at program after_store) (sym is_address) ∙ memory_after address ∙ memory_there program c address word before there ∙ ap Some is_word))
 
-    -- A return writes the result slots of the newest waiting call, and the facts known about this call's slots are true afterwards.
+    -- A return writes the result slots of the newest call that waits for its callee. Afterwards the facts known about the slots of
+    -- this call are true.
     returned : (value results : ℕ) (frames : List Frame) → results ≡ (routine_at program c.active.function).results → AreWaiting c.active.function frames → IsKnown (returns c value results frames)
     returned value results [] same calls = tt
     returned value results (f ∷ frames) same (stands, rest) =

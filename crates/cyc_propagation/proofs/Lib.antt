@@ -1,6 +1,6 @@
 -- changes of memory
 pub mod Memory
--- the proof that preserved facts stay true
+-- the proof that the facts preserved by an instruction (facts about slots and memory) stay true when the instruction is executed
 pub mod Truth
 pub mod Trailing
 pub mod States
@@ -8,12 +8,12 @@ pub mod Kept
 -- the proof that replacements have the effect of the original instructions
 pub mod Same
 pub mod Steps
--- the proof that the facts of checked tables are true
+-- the proof that the facts in a table that passed its check are true in each run
 pub mod Tables
 -- the proof that each run of a simplified program is a run of the original program
 pub mod Alike
 pub mod Runs
--- the proof that the simplified program is a plain program that is not larger
+-- the proof that the simplified program is plain (well-formed, with numbers that fit machine words) and not larger than the original one
 pub mod Suited
 pub mod Words
 pub mod Sizes

@@ -16,7 +16,7 @@ use Rattle.cyc_propagation.specs.inside.Facts.{global_offset}
 -- ---- consecutive words
 
 module _ (is_asked : ℕ → Bool) (base : ℕ) where
-  -- Two different addresses in a range of words belong to two different words.
+  -- Two different addresses in a range of words are the addresses of two different words.
   words_apart : (a b m n : ℕ) → numbered is_asked base a ≡ Some m → numbered is_asked base b ≡ Some n → b ≢ a → n ≢ m
   words_apart a b m n at other apart same =
       apart ((numbered-from is_asked base b n other).0 ∙ ap (λ (k : ℕ). base + 4 * k) same ∙ sym (numbered-from is_asked base a m at).0)
@@ -133,7 +133,8 @@ unnamed_left program c a word slot free = go (range_of a)
 
 -- ---- slots
 
--- `IsAlike` says that two configurations have equal globals, blocks and calls, except for the slots of the active call.
+-- `IsAlike` says that two configurations have equal globals, equal heap blocks and equal calls, except that the slots
+-- of the active calls may differ.
 pub record IsAlike (c d : Configuration) : Type 0 where
   pub function : d.active.function ≡ c.active.function
   pub base : d.active.base ≡ c.active.base

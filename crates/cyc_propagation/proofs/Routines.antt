@@ -99,7 +99,7 @@ module _ (program simplified : Program) (are : AreReplaced program simplified) (
         all = replaced.is_table.suited index within;
       }
 
-  -- If each replacement has a property, and each jump into the code has it, then all instructions of the new code have it.
+  -- All instructions of the new code have a property if each replacement of an instruction and each jump to a position of the code have it.
   all_put : (P Q : Instruction → Type 0) → ((facts : List Fact) → are_suited replaced.pinned facts ≡ true → (i : Instruction) → P i → Q (simplified_instruction facts i))
       → ((target : ℕ) → target < length r.code → Q (instructions.Jump target)) → All P r.code → All Q s.code
   all_put P Q each jump all = All_by_number Q s.code (λ index j at.

@@ -170,7 +170,8 @@ module _ (program simplified : Program) (are : AreReplaced program simplified) w
     abbrev facts : List Fact
     facts = facts_in program simplified (each_replaced program simplified are) c.active.function c.active.next
 
-    -- `AreBoth` relates the corresponding instructions of the original and the simplified program at the position that is executed next.
+    -- `AreBoth` says that, at the position executed next, the simplified program has the replacement of the original instruction, or
+    -- both programs have none.
     abbrev AreBoth : Option Instruction → Option Instruction → Type 0
     AreBoth (Some i) other = other ≡ Some (put_at facts c.active.next (length (routine_at program c.active.function).code) i)
     AreBoth None other = other ≡ None
@@ -220,7 +221,7 @@ module _ (program simplified : Program) (are : AreReplaced program simplified) w
     same_step : IsSame (instruction_at program place) (instruction_at simplified place)
     same_step = executes_same (instruction_at program place) (instruction_at simplified place) refl refl (both (instruction_at program place) refl)
 
-    -- An address of a callee's slots that a step of the simplified program allows is also allowed in the original program.
+    -- If the simplified program may place a callee's slots at an address, the original program may place them there too.
     lies_same : (base : ℕ) (o : Option ℕ) → MayLie simplified base o (Running c) → MayLie program base o (Running c)
     lies_same base None may = may
     lies_same base (Some function) may = record {

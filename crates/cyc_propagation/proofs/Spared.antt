@@ -123,7 +123,8 @@ module _ (program spared : Program) (are : AreSpared program spared) where
       high = subst (λ (n : ℕ). base + 4 * n ≤ c.active.base) (ap (λ (r : Routine). r.slots) (spared_at function).same) may.high;
     }
 
-    -- A step of an instruction that is the same in both programs is a step of the original program.
+    -- If the original program and the one with dropped stack checks have the same instruction, each of its steps is a step of the original
+    -- program.
     by_itself : instruction_at spared stands ≡ instruction_at program stands → IsStepOf (limited_step spared pages calls choice (Running c))
     by_itself same = record {
       other = choice;
@@ -157,8 +158,8 @@ module _ (program spared : Program) (are : AreSpared program spared) where
               ∙ ap (λ (o : Option Instruction). limited pages (limit_of o calls) (Running c) (executed program (record choice { base = slots_base }) c o)) (sym at);
         }
 
-    -- `AreThere` relates the corresponding instructions of the original program and of the one with
-    -- dropped checks, at the position that is executed next.
+    -- `AreThere` says that, at the position executed next, the program with dropped checks has the replacement of the original instruction,
+    -- or both have none.
     abbrev AreThere : Option Instruction → Option Instruction → Type 0
     AreThere (Some i) other = other ≡ Some (spared_instruction (slots_in program) (rooms_in c.active.function c.active.next) c.active.next i)
     AreThere None other = other ≡ None

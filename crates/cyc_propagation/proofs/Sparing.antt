@@ -1,4 +1,5 @@
--- Code that passed the check is free of redundant checks for stack space, and so are functions and programs with this code.
+-- If the table of known stack space passes its check, the code made from it has no redundant checks for stack space. The
+-- same holds for functions and programs with this code.
 use Rattle.std.proofs.Common.{◌≡◌, ℕ, suc, ◌+◌, ◌^◌, ◌<◌, ◌≤◌, true, ◌&&◌, ◌||◌, List, [], ◌∷◌, ◌++◌, length, map, Some, slice_get, refl, sym, ap, subst, ◌∙◌, arith, inl, inr}
 use Rattle.std.specs.Prelude.{◌==◌, slice_index_or}
 use Rattle.std.proofs.lemmas.Bool.{cases_lt, and_parts, eqb-true, leb-true, or_cases, false≢true}

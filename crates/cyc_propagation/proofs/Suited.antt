@@ -1,4 +1,5 @@
--- Facts mention only free slots (slots whose address is not taken) and words, and so do the operands that facts supply.
+-- The slots in facts are free (their address is not taken), and the constants in facts fit a machine word. The same
+-- holds for the operands that facts supply as replacements.
 use Rattle.std.proofs.Common.{◌≡◌, ℕ, ◌<◌, Bool, true, ◌&&◌, List, [], ◌∷◌, length, Option, Some, None, sym, ap, ◌∙◌, inl, inr}
 use Rattle.std.specs.Prelude.{not, unwrap_or}
 use Rattle.std.proofs.lemmas.Bool.{and_parts, cases_lt, cond_both, false≢true}
@@ -63,7 +64,7 @@ module _ (pinned : List Bool) where
       go (Some slot) free others = free
       go None free others = others
 
--- If a fact states an operand for a word of memory, the operand is a slot whose address is not taken, or a word.
+-- An operand that a fact states for a word of memory is a slot whose address is not taken, or a constant that fits a machine word.
 module _ (pinned : List Bool) where
   abbrev pub SuitsIfAny : Option Operand → Type 0
   SuitsIfAny (Some value) = suits_operand pinned value ≡ true

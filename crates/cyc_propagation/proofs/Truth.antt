@@ -179,7 +179,7 @@ IsUntouched old new (touches.Word address offset) =
 IsUntouched old new touches.All = Unit {0}
 
 module _ (old new : Scene) where
-  -- A fact stays true if all words that it mentions are unchanged.
+  -- A fact stays true if the values of all slots, operands and memory words that occur in it are unchanged.
   same_equal : (slot : ℕ) (operand : Operand) → new.slots slot ≡ old.slots slot → operand_word new.slots operand ≡ operand_word old.slots operand
       → IsTrueIn old (facts_are.Equal slot operand) → IsTrueIn new (facts_are.Equal slot operand)
   same_equal slot operand at by_operand holds = at ∙ holds ∙ sym by_operand
@@ -273,7 +273,7 @@ module _ (old new : Scene) where
     suited_true (fact ∷ facts) suited (first, rest) =
         let (s, others) = and_parts (suits pinned fact) (are_suited pinned facts) suited in (fact_free fact s first, suited_true facts others rest)
 
--- The facts that an instruction preserves mention only slots whose address is not taken.
+-- If facts contain only slots whose address is not taken, so do those of them that an instruction preserves.
 pub kept_suited : (pinned : List Bool) (w : Written) (t : Touched) (facts : List Fact) → are_suited pinned facts ≡ true → are_suited pinned (kept w t facts) ≡ true
 kept_suited pinned w t [] all = refl
 kept_suited pinned w t (fact ∷ facts) all =
@@ -327,7 +327,7 @@ true_after_call old new w leaves (fact ∷ facts) alone =
 
 -- ---- one more fact
 
--- A fact is added only if it mentions no slot whose address is taken, and only words.
+-- A fact is added only if the address of no slot in it is taken, and each constant in it fits a machine word.
 pub suited_if : (scene : Scene) (pinned : List Bool) (fact : Fact) → (suits pinned fact ≡ true → IsTrueIn scene fact) → IsTrueIfAny scene (suited pinned fact)
 suited_if scene pinned fact holds = cond_both (suits pinned fact) (Some fact) None (IsTrueIfAny scene) (λ s. holds s) (λ s. tt)
 

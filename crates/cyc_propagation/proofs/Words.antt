@@ -28,7 +28,7 @@ word_suits : (pinned : List Bool) (operand : Operand) → suits_operand pinned o
 word_suits pinned (operands.Slot number) suits = tt
 word_suits pinned (operands.Word word) suits = ltb-true word (2 ^ 32) suits
 
--- A word that a fact states fits a machine word.
+-- If a fact states a constant as a value, this constant fits a machine word.
 module _ (pinned : List Bool) where
   abbrev IsWordIfAny : Option ℕ → Type 0
   IsWordIfAny (Some word) = IsWord word

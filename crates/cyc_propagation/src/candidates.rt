@@ -43,8 +43,8 @@ fn with_copies(copies: Copies, destination: usize, count: usize) -> Copies {
     }
 }
 
-/// The slots copied to and the slots and globals read since the last call. Copies that pass arguments are
-/// ignored, since the call needs them.
+/// The slots to which words were copied and the globals loaded or stored since the last call. Copies that
+/// pass arguments are ignored, since the call needs them.
 #[derive(Clone, Copy)]
 struct Seen {
     copies: Copies,
@@ -78,7 +78,7 @@ fn see_global(seen: Seen, global: usize) -> Seen {
     }
 }
 
-/// Returns the slots copied to and the slots and globals read so far, with those of one more instruction.
+/// Returns the record of the slots copied to and the globals loaded or stored so far, updated for one more instruction.
 fn seen_after(seen: Seen, instruction: &Instruction) -> Seen {
     match *instruction {
         Instruction::Move {

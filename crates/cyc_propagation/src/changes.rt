@@ -222,7 +222,7 @@ fn is_untouched(touched: Touched, address: Operand, offset: u32) -> bool
     }
 }
 
-/// Returns true if an instruction preserves a fact: it writes no slot, and changes no word of memory, that the fact mentions.
+/// Returns true if an instruction preserves a fact: it writes no slot, and changes no word of memory, that occurs in the fact.
 fn keeps(slots: Written, touched: Touched, fact: &Fact) -> bool
     ensures { result ≡ facts_of.keeps slots touched fact.now }
 {
@@ -263,7 +263,7 @@ pub(crate) fn changes_nothing(slots: Written, touched: Touched) -> bool
     }
 }
 
-/// Returns true if a fact does not mention this slot.
+/// Returns true if this slot does not occur in a fact.
 fn leaves_out(slot: usize, fact: &Fact) -> bool
     ensures { result ≡ keeping.leaves_out slot fact.now }
 {
@@ -293,7 +293,7 @@ fn changes_one(slots: Written, touched: Touched) -> bool
     }
 }
 
-/// Returns true if a fact does not mention memory that may be changed.
+/// Returns true if a fact says nothing about the part of memory that an instruction may change.
 fn leaves_memory(touched: Touched, fact: &Fact) -> bool
     ensures { result ≡ keeping.leaves_memory touched fact.now }
 {
@@ -315,7 +315,7 @@ fn keep_others(facts: &mut Vec<Fact>, slots: Written, touched: Touched)
     facts.retain(|fact| leaves_out(slots.first, fact));
 }
 
-/// Removes the facts about changed memory, if no slot is written.
+/// Removes the facts about the part of memory that an instruction changes, if the instruction writes no slot.
 fn keep_memory(facts: &mut Vec<Fact>, slots: Written, touched: Touched)
     requires { slots.count ≡ 0 }
     ensures { facts.new.items ≡ facts_of.kept slots touched facts.old.items }

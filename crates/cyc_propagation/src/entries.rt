@@ -309,8 +309,8 @@ impl Search {
         Ok(())
     }
 
-    /// Finds the facts at each jump target of a code region. A search limited to one pass determines only the changed loop
-    /// headers and leaves everything else to the checking traversal.
+    /// Finds the facts at each jump target of a code region. If a search limited to one pass changes facts at a loop
+    /// header, only the facts at loop headers are kept. The checking traversal then finds the other facts.
     fn settle(
         &mut self,
         plain: &Plain,

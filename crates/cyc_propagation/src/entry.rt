@@ -66,7 +66,7 @@ pub(crate) fn may_go_on(entries: &[Entry], next: usize, facts: &[Fact]) -> bool
     }
 }
 
-/// Returns true if the facts required at a position mention only words and slots whose address is not taken.
+/// Returns true if the facts required at a position contain only slots whose address is not taken, and constants that fit a machine word.
 pub(crate) fn is_entry_suited(pinned: &[bool], entries: &[Entry], place: usize) -> bool
     ensures { result ≡ table.is_entry_suited pinned.now (entries_of.entry_in entries.now place) }
 {

@@ -16,13 +16,13 @@ use std::marker::Model;
 /// The bit mask of all slots, for the case that each slot may equal another one.
 const ANY_SLOT: u64 = u64::MAX;
 
-/// A list of facts, with bit masks that show quickly that an operand equals no other slot or that no fact mentions it.
+/// A list of facts, with bit masks that show quickly that an operand equals no other slot, or that it occurs in no fact.
 #[derive(Drop)]
 pub(crate) struct Facts {
     facts: Vec<Fact>,
     /// The bits of slots known to equal other slots. A slot that equals no other one may share such a bit.
     copies: u64,
-    /// The bits of all slots that the facts mention. A slot that no fact mentions may share such a bit.
+    /// The bits of all slots that occur in the facts. A slot that occurs in no fact may share such a bit.
     slots: u64,
 }
 
@@ -69,7 +69,7 @@ fn copies_in(facts: &[Fact]) -> u64
     copies
 }
 
-/// Returns the bit of an operand that is a slot, or 0 for a word.
+/// Returns the bit of an operand that is a slot, or 0 for an operand that is a constant.
 fn bits_of(operand: Operand) -> u64
     ensures { IsAboutOperand result operand }
 {
@@ -79,7 +79,7 @@ fn bits_of(operand: Operand) -> u64
     }
 }
 
-/// Returns the bits of the slots that a fact mentions.
+/// Returns the bits of the slots that occur in a fact.
 fn slots_of(fact: &Fact) -> u64
     ensures { IsAbout result fact.now }
 {
@@ -96,7 +96,7 @@ fn slots_of(fact: &Fact) -> u64
     }
 }
 
-/// Returns the mask with the bits of the slots that a fact mentions.
+/// Returns the mask with the bits of the slots that occur in a fact.
 fn with_slots(slots: u64, fact: &Fact) -> u64
     ensures more { (other : Fact) → IsAbout slots other → IsAbout result other }
     ensures has { IsAbout result fact.now }
@@ -114,8 +114,8 @@ fn slots_in(facts: &[Fact]) -> u64
     slots
 }
 
-/// Returns the bits of the slots that facts mention after an instruction, before which there were `count` facts. The bits are recomputed
-/// only if one slot was written and a fact was dropped, since slots share bits.
+/// Returns the bits of the slots that occur in the facts known after an instruction, before which there were `count` facts. The bits are
+/// recomputed only if one slot was written and a fact was dropped, since slots share bits.
 fn slots_after(slots: u64, facts: &[Fact], written: Written, count: usize) -> u64
     ensures { AreAbout slots facts.now → AreAbout result facts.now }
 {
@@ -191,7 +191,7 @@ impl Facts {
         Ok(())
     }
 
-    /// Returns true if a known fact may mention this slot.
+    /// Returns true if this slot may occur in a known fact.
     pub(crate) fn may_be_about(&self, slot: usize) -> bool
         ensures kept { result ≡ false → facts_of.kept (record { first = slot; count = 1 }) touches.Nothing self.now ≡ self.now }
         ensures unknown { result ≡ false → (operand : Operand) → facts_of.is_known self.now (facts_are.Equal slot operand) ≡ false }
@@ -199,8 +199,8 @@ impl Facts {
         self.slots & bit_of(slot) != 0
     }
 
-    /// Returns true if a fact may state the result of an operator on this operand. If no fact mentions a slot, no slot is known to
-    /// contain a result computed from it.
+    /// Returns true if a fact may state the result of an operator on this operand. If a slot occurs in no fact, no slot is known
+    /// to contain a result computed from it.
     pub(crate) fn may_tell_of(&self, operand: Operand) -> bool
         ensures { result ≡ false → (operator : BinaryOperator) (destination : ℕ) (right : Operand)
             → replacement.simplified_of self.now operator destination operand right ≡ instructions.Binary operator destination operand right }
@@ -211,8 +211,8 @@ impl Facts {
         }
     }
 
-    /// Returns true if the bit masks show that no fact mentions what an instruction writes or changes. Most instructions write just one
-    /// slot that no fact mentions, so that all known facts stay true.
+    /// Returns true if the bit masks show that nothing that an instruction writes or changes occurs in a fact. Most instructions write
+    /// just one slot that occurs in no fact, so that all known facts stay true.
     fn leaves_all(&self, slots: Written, touched: Touched) -> bool
         ensures { result ≡ true → facts_of.kept slots touched self.now ≡ self.now }
     {

@@ -43,8 +43,8 @@ pub(crate) fn word_in(facts: &[Fact], operand: Operand) -> Option<u32>
     }
 }
 
-/// Returns true if this operator's machine instruction can contain a small constant as its second
-/// operand, so that the constant needs no extra instruction.
+/// Returns true if this operator's machine instruction can contain a small constant as its second operand, so that the constant needs no
+/// extra instruction.
 fn takes_word(operator: BinaryOperator) -> bool
     ensures { result ≡ replacement.takes_word operator }
 {
@@ -135,7 +135,8 @@ pub(crate) fn folded_unary(facts: &[Fact], operator: UnaryOperator, operand: Ope
 }
 
 /// Returns true if folding loses no knowledge of the result: the left operand is a constant, or the operator overwrites one of its own
-/// operands. In all other cases the operator is kept, so that a value that a loop recomputes from the same slots is known at its header.
+/// operands. In all other cases the operator is kept, so that a value that a loop recomputes from the same slots is known at the loop's
+/// header.
 fn may_fold(destination: usize, left: Operand, right: Operand) -> bool
     ensures { result ≡ replacement.may_fold destination left right }
 {

@@ -31,7 +31,8 @@ pub(crate) fn goes_on(instruction: Instruction) -> bool
     }
 }
 
-/// Returns true if a run ends at a code position, or leaves the function by an exception, so that no facts are needed there.
+/// Returns true if execution ends at a code position, or leaves the function there by an exception, so that no facts are
+/// needed at this position.
 pub(crate) fn is_end(code: &[Instruction], index: usize) -> bool {
     match code.get(index) {
         Some(instruction) => matches!(

@@ -24,7 +24,7 @@ pub(crate) fn negated(comparison: Comparison) -> Comparison
     }
 }
 
-/// Returns true if a fact mentions only words and slots whose address is not taken.
+/// Returns true if a fact contains only slots whose address is not taken, and constants that fit a machine word.
 pub(crate) fn suits(pinned: &[bool], fact: &Fact) -> bool
     ensures { result ≡ facts_of.suits pinned.now fact.now }
 {
@@ -307,7 +307,7 @@ fn are_copied(pinned: &[bool], destination: usize, source: usize, count: usize) 
         && (are_free(pinned, destination, count) && are_free(pinned, source, count))
 }
 
-/// Returns the fact that the word copied at `index` of a move equals its source, if the move copies that many words.
+/// Returns the fact that the word at `index` among the words that a move copies equals its source word, if the move copies that many words.
 #[tactic(auto, using(crate::proofs::Ranges::destination_within, crate::proofs::Ranges::source_within))]
 pub(crate) fn copied(pinned: &[bool], instruction: Instruction, index: usize) -> Option<Fact>
     ensures { result ≡ facts_of.copied pinned.now instruction index }

@@ -1,4 +1,4 @@
-//! The slots of a function whose address is taken. A store instruction may change them, so no fact mentions them.
+//! The slots of a function whose address is taken. A store instruction may change such a slot, so no fact about it is kept.
 ghost use Rattle.std.specs.Prelude.{◌≡◌, IfOk};
 ghost use Rattle.cyc_plain.specs.inside.Program.{routine_of};
 ghost use Rattle.cyc_propagation.specs.inside.Facts as facts_of;
@@ -12,7 +12,7 @@ use crate::outcomes::suits;
 use cyc_plain::{Function, Instruction, MOST_FRAME_WORDS, Operand, RECORD_WORDS};
 use std::alloc::{AllocError, Global};
 
-/// Returns true if a slot belongs to the function and its address is not taken.
+/// Returns true if a slot is one of the function's slots and its address is not taken.
 pub(crate) fn is_free(pinned: &[bool], slot: usize) -> bool
     ensures { result ≡ facts_of.is_free pinned.now slot }
 {
@@ -44,7 +44,7 @@ pub(crate) fn suits_operand(pinned: &[bool], operand: Operand) -> bool
     }
 }
 
-/// Returns true if all facts mention only words and slots whose address is not taken.
+/// Returns true if all facts contain only slots whose address is not taken, and constants that fit a machine word.
 pub(crate) fn are_suited(pinned: &[bool], facts: &[Fact]) -> bool
     ensures { result ≡ facts_of.are_suited pinned.now facts.now }
 {

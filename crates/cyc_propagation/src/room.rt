@@ -57,14 +57,14 @@ fn room_at(rooms: &[usize], place: usize) -> usize
     }
 }
 
-/// Returns true if a code position requires no more than this stack space.
+/// Returns true if the stack space recorded for a code position is at most this much.
 fn is_enough(rooms: &[usize], room: usize, place: usize) -> bool
     ensures { result ≡ rooms_of.is_enough rooms.now room place }
 {
     room_at(rooms, place) <= room
 }
 
-/// Returns true if each successor of an instruction requires no more than this stack space.
+/// Returns true if the stack space recorded for each successor of an instruction is at most this much.
 fn leads_to_enough(rooms: &[usize], room: usize, instruction: Instruction, index: usize) -> bool
     requires { index + 1 < 2 ^ 64 }
     ensures { result ≡ rooms_of.leads_to_enough rooms.now room instruction index }
@@ -107,8 +107,8 @@ fn spared_instruction(
     }
 }
 
-/// Lowers the stack space known at a code position to at most `room`. Returns true if the stack
-/// space known there was at most `room` already.
+/// Lowers the stack space known at a code position to at most `room`. Returns true if the stack space known there was at most `room`
+/// already.
 fn restrict(rooms: &mut Vec<usize>, place: usize, room: usize) -> bool {
     if let Some(known) = rooms.get_mut(place) {
         if room < *known {

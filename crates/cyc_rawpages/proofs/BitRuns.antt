@@ -1,4 +1,4 @@
--- Lemmas about bits of a page pool that are set or cleared at once, in one machine word.
+-- Lemmas about bits of a page pool (one for each word of its pages) that are set or cleared at once, in one machine word.
 use Rattle.std.proofs.Common.{◌≡◌, ℕ, zero, suc, refl, ◌+◌, ◌*◌, ◌%◌, ◌<◌, ◌≤◌, Bool, false, length, sym, ap, ◌∙◌, inl, inr, arith, get_or-set_same, get_or-set_other}
 use Rattle.std.specs.Prelude.{◌==◌, ◌&&◌, ◌⊎◌, nat_le, nat_lt, slice_index, slice_index_or}
 use Rattle.std.specs.Int.{bit_at}
@@ -32,7 +32,7 @@ module _ (pages : ℕ) (raw : Parts) (at count w : ℕ) (v : Bool) (there : at <
   abbrev was : ℕ → Bool
   was number = slice_index_or (tabulate (1024 * pages) (bit_of raw)) number false
 
-  -- A bit of the pool that lies in the word just written has the value of the written word's bit.
+  -- If a bit of the pool (one for each word of its pages) lies in the machine word just written, it has this word's bit value.
   here : (number : ℕ) → bits_at number ≡ k → bit_of new number ≡ (bit_at w (number % 32) == 1)
   here number same = (λ j. bit_at (slice_index new.heads (same j)) (number % 32) == 1) ∙ ap (λ x. bit_at x (number % 32) == 1) (get_or-set_same raw.heads k w 0 inside)
 
@@ -72,7 +72,7 @@ between-more old mid first done some value number were = elim (cases_lt number (
   ]
 ]
 
--- Lemmas about writing whole words of a page's bits, from bit `bit` on.
+-- Lemmas about writing a page's bits (one for each word of the page) 32 at a time, from bit `bit` on.
 module _ (pages : ℕ) (raw : Parts) (first : ℕ) (l : Lists) (page bit w : ℕ) (v : Bool) (there : page < pages) (aligned : bit % 32 ≡ 0) (is : IsPool pages raw first l)
     (on : (i : ℕ) → i < 32 → (bit_at w i == 1) ≡ v) where
   abbrev at : ℕ
@@ -81,11 +81,11 @@ module _ (pages : ℕ) (raw : Parts) (first : ℕ) (l : Lists) (page bit w : ℕ
   abbrev after : (count : ℕ) → Parts
   after count = headed_all raw (bits_at at) count w
 
-  -- The next word of bits follows directly after the words written so far.
+  -- The machine word with a page's next 32 bits follows directly after the words of bits written so far.
   next : (count : ℕ) → bit + 32 * suc count ≤ 1024 → bits_at (at + 32 * count) ≡ bits_at at + count
   next count small = omega (arith, small, aligned)
 
-  -- A word of bits is not a field of a page header.
+  -- A machine word that contains bits of a page is not a field of a page header.
   apart : (count : ℕ) → bit + 32 * suc count ≤ 1024 → (other field : ℕ) → field < 8 → header_at other field ≡ bits_at at + count → ⊥
   apart count small other field low same = omega (arith, small, aligned, low, same)
 

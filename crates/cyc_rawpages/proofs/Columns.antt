@@ -51,7 +51,7 @@ module _ (pages : ℕ) (raw : Parts) (k v : ℕ) where
       → tabulate pages (serial_of new) ≡ tabulate pages (serial_of raw)
   serials-kept low high = tab-ext pages (serial_of new) (serial_of raw) (λ i lt. λ j. field-kept LOW i (low i lt) j + 2 ^ 32 * field-kept HIGH i (high i lt) j)
 
-  -- If the written word contains no page's bits, all bits keep their values.
+  -- If the written machine word contains no page's bits, the bits of all pages (one for each word) keep their values.
   bits-kept : ((number : ℕ) → number < 1024 * pages → bits_at number ≡ k → ⊥) → tabulate (1024 * pages) (bit_of new) ≡ tabulate (1024 * pages) (bit_of raw)
   bits-kept ne = tab-ext (1024 * pages) (bit_of new) (bit_of raw) (λ i lt. ap (λ w. bit_at w (i % 32) == 1) (get_or-set_other raw.heads k (bits_at i) v 0 (ne i lt)))
 
@@ -122,7 +122,7 @@ module _ (pages : ℕ) (raw : Parts) (l : Lists) (whole : length raw.heads ≡ 4
         chains = l.chains;
       }
 
-  -- Writing a word in which one bit differs sets or clears that bit of a page.
+  -- Writing a word of bits in which one bit differs from the old word sets or clears this bit of a page.
   pub marked : (page bit w : ℕ) (v : Bool) → page < pages → bit < 1024 → (bit_at w (bit % 32) == 1) ≡ v
       → ((i : ℕ) → i < 32 → (i ≡ bit % 32 → ⊥) → bit_at w i ≡ bit_at (slice_index raw.heads (bits_at (1024 * page + bit))) i)
       → state_of pages (headed raw (bits_at (1024 * page + bit)) w) l ≡ record (state_of pages raw l) { bits = set (state_of pages raw l).bits (1024 * page + bit) v }
@@ -147,7 +147,7 @@ module _ (pages : ℕ) (raw : Parts) (l : Lists) (whole : length raw.heads ≡ 4
         chains = l.chains;
       }
 
-  -- Writing a word of bits changes only the pool's bits.
+  -- Writing a machine word that contains bits of pages changes only the pool's bits (one for each word of a page).
   pub rewritten : (k w : ℕ) → ((page field : ℕ) → field < 8 → header_at page field ≡ k → ⊥) → state_of pages (headed raw k w) l ≡ record (state_of pages raw l) { bits = tabulate (1024 * pages) (bit_of (headed raw k w)) }
   rewritten k w apart =
       λ j. record {

@@ -108,7 +108,7 @@ module _ (pages : ℕ) (next tail : ℕ → ℕ) (first : ℕ) (l : Lists) (up :
         ];
       }
 
-  -- The last page of a chain belongs to the chain: its home is the chain's head.
+  -- The last page of a chain is a page of this chain: its home (the first page of the chain that contains it) is the chain's head.
   pub tail-in : (head : ℕ) (rest : List ℕ) → head < pages → chain_at l.chains head ≡ head ∷ rest → IsIn pages up.home head (tail head)
   tail-in head rest below e = let c = subst (IsChain pages next tail up.home head) e (up.run head below) in last-in (IsIn pages up.home head) next head rest (tail head) c.3 c.1
 

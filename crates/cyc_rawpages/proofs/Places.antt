@@ -61,8 +61,8 @@ module _ {M : Type 1} {𝓤 : Ura M} (𝓛 : Logic 𝓤) (b : ℕ) where
   place_room o (Some w) = via 𝓤 _ (uint_out 𝓛 full_share w32 w b o) (𝓛.laws.at_room (ty_int w32) b o (vint w32 w))
   place_room o None = id⊢ 𝓤 _
 
-  -- Ownership of a block's space is ownership of its empty cells. Ownership of its cells, whatever
-  -- they contain, gives ownership of the space.
+  -- Ownership of a block's space is ownership of its empty cells. Ownership of its cells, whatever they contain, gives ownership of the
+  -- space.
   pub of_room : (n o : ℕ) → ent 𝓤 (H.room (ty_array (ty_int w32) n) b o) (sem 𝓛 (places b o (replicate n None)))
   of_room zero o = qed 𝓛 (‵ (froom (ty_array (ty_int w32) 0) b o) ∷ []) ∵ keep ! [] $ done !
   of_room (suc n) o = qed 𝓛 (‵ (froom (ty_array (ty_int w32) (suc n)) b o) ∷ []) ∵

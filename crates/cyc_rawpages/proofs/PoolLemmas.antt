@@ -13,7 +13,8 @@ use Rattle.cyc_rawpages.proofs.Columns.{tab-read, field-kept}
 use Rattle.cyc_rawpages.proofs.FreePages.{other-among, among-following, free-none as none-free, free-first, free-taken, free-given}
 use Rattle.cyc_rawpages.proofs.Links.{put-there, put-elsewhere, all-map, free-none, free-some, free-there, taken, tail-in, given, pushed}
 
--- The index of a page's header field is below the number of words at the pool's start, which hold all pages' headers and bits.
+-- The index of a page's header field is below the number of words at the pool's start. These words hold, for each page, a
+-- header and 1,024 bits, one for each word of the page.
 pub header-in : (pages page field : ℕ) (raw : Parts) → length raw.heads ≡ 40 * pages → page < pages → field < 8 → header_at page field < length raw.heads
 header-in pages page field raw whole there low = omega (arith, whole, there, low)
 

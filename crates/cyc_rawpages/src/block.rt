@@ -7,7 +7,7 @@ use super::cells::{Cells, Lease, Start, acquire, release};
 use std::alloc::{AllocError, Global};
 use std::marker::Model;
 
-/// The minimum number of words that are cleared at once.
+/// The minimum number of words to which 0 is written at once.
 const STRETCH: usize = 1024;
 
 /// One block of memory with `heads` header words at its start, followed by `words` further words. Dropping the struct frees the block.
@@ -74,7 +74,7 @@ impl Block {
         })
     }
 
-    /// Returns the header word, at the start of the block, with the given index.
+    /// Returns the header word with index `index`, one of those at the start of the block.
     #[inline]
     pub fn head(&self, index: usize) -> u32
         requires { index < length self.now.heads }
@@ -83,7 +83,7 @@ impl Block {
         self.cells.read(self.start, index)
     }
 
-    /// Writes the header word, at the start of the block, with the given index.
+    /// Replaces the header word with index `index`, one of those at the start of the block, by `word`.
     #[inline]
     pub fn set_head(&mut self, index: usize, word: u32)
         requires { index < length self.old.heads }
@@ -105,7 +105,7 @@ impl Block {
         }
     }
 
-    /// Returns the number of words, counted from the first, that are initialised.
+    /// Returns the number of words after the header words that are initialised, counted from the first of them.
     #[inline]
     pub fn made(&self) -> usize
         ensures is { result ≡ self.now.made }
@@ -114,7 +114,7 @@ impl Block {
         self.made
     }
 
-    /// Writes 0 to each of the first `count` words that is not initialised yet.
+    /// Writes 0 to each word that is not initialised yet among the first `count` words after the header words.
     #[inline]
     pub fn make(&mut self, count: usize)
         requires { count ≤ length self.old.words }
@@ -126,8 +126,8 @@ impl Block {
         }
     }
 
-    /// Writes 0 to each of the first `count` words that is not initialised yet. At least the last of these words must not be
-    /// initialised yet.
+    /// Writes 0 to each word that is not initialised yet among the first `count` words after the header words. At least the
+    /// last of these words must not be initialised yet.
     #[cold]
     #[inline(never)]
     fn make_far(&mut self, count: usize)
@@ -144,7 +144,7 @@ impl Block {
         self.made = count;
     }
 
-    /// Returns the word at an index.
+    /// Returns the word at an index, counted from the first word after the block's header words.
     #[inline]
     pub fn word(&self, index: usize) -> u32
         requires { index < length self.now.words }
@@ -157,7 +157,7 @@ impl Block {
         }
     }
 
-    /// Writes the word at an index.
+    /// Writes the word at an index, counted from the first word after the block's header words.
     #[inline]
     pub fn set_word(&mut self, index: usize, word: u32)
         requires { index < length self.old.words }
@@ -171,7 +171,8 @@ impl Block {
         }
     }
 
-    /// Writes the word at an index. Also writes 0 to each uninitialised word before it and to a stretch of words after it.
+    /// Writes the word at an index, counted from the first word after the header words. Also writes 0 to each
+    /// uninitialised word before it and to a number of words after it.
     #[cold]
     #[inline(never)]
     fn set_far_word(&mut self, index: usize, word: u32)

@@ -1,16 +1,16 @@
-//! The words at the start of a pool's block: for each page, a header followed by the page's bits.
+//! The words at the start of a pool's block: for each page, a header followed by 1,024 bits, one for each word of the page.
 
 ghost use Rattle.std.specs.Int.{bit_at};
 ghost use Rattle.std.specs.Prelude.{◌==◌, if◌then◌else◌, ◌≡◌, ◌≢◌, ℕ, ◌+◌, ◌*◌, ◌<◌, ◌≤◌, ◌⊎◌};
 ghost use Rattle.cyc_rawpages.specs.inside.Pool.{header_at, bits_at};
 
-/// The number of words of a page, which is also the number of the page's bits.
+/// The number of words of a page. A page also has this number of bits, one for each word.
 pub const PAGE_WORDS: u32 = 1024;
 
 /// The number of words in the header of a page.
 pub const HEADER_WORDS: u32 = 8;
 
-/// The total number of words of a page's header and of its bits.
+/// The number of words that a page's header and its 1,024 bits take together.
 pub const HEAD_WORDS: u32 = 40;
 
 /// The maximum number of pages of a pool.
@@ -37,7 +37,8 @@ pub const TAIL: u32 = 5;
 /// The page number that represents the absence of a page.
 pub const NONE: u32 = 0xffff_ffff;
 
-/// Returns the index of a field of a page's header, among the pool's first words with all pages' headers and bits.
+/// Returns the index of a field of a page's header, among the words at the pool's start. These words hold, for
+/// each page, a header and 1,024 bits, one for each word of the page.
 #[inline]
 pub(crate) fn header_at(page: u32, field: u32) -> usize
     ensures { result ≡ header_at page field }
@@ -45,7 +46,8 @@ pub(crate) fn header_at(page: u32, field: u32) -> usize
     HEAD_WORDS as usize * page as usize + field as usize
 }
 
-/// Returns the index of the word with a given bit of a page, among the pool's first words with all pages' headers and bits.
+/// Returns the index of the word with a given bit of a page, among the words at the pool's start. These words hold, for
+/// each page, a header and 1,024 bits, one for each word of the page.
 #[inline]
 pub(crate) fn bits_at(page: u32, bit: u32) -> usize
     requires { bit < PAGE_WORDS }

@@ -224,7 +224,7 @@ impl Pool {
         self.block.set_head(header_at(page.number, HIGH), high);
     }
 
-    /// Returns true if a bit of a page is set.
+    /// Returns true if the given one of a page's 1,024 bits is set.
     #[inline]
     pub fn bit(&self, page: PageNo, bit: u32) -> bool
         requires { (page.number < self.now.pages) × (bit < PAGE_WORDS) }
@@ -234,7 +234,7 @@ impl Pool {
         marks >> (bit % 32) & 1 == 1
     }
 
-    /// Sets or clears a bit of a page.
+    /// Sets or clears one of a page's 1,024 bits, whose meaning is up to the caller.
     pub fn set_bit(&mut self, page: PageNo, bit: u32, value: bool)
         requires { (page.number < self.old.pages) × (bit < PAGE_WORDS) }
         ensures { self.new ≡ record self.old { bits = set self.old.bits (PAGE_WORDS * page.number + bit) value } }
@@ -244,7 +244,7 @@ impl Pool {
         self.block.set_head(at, marks);
     }
 
-    /// Sets or clears `count` bits of a page from `bit` on in one operation. All `count` bits must lie in one word.
+    /// Sets or clears `count` bits of a page from `bit` on in one operation. All `count` bits must lie in one 32-bit word.
     pub fn set_bits(&mut self, page: PageNo, bit: u32, count: u32, value: bool)
         requires there { (page.number < self.old.pages) × (bit < PAGE_WORDS) }
         requires few { bit % 32 + count ≤ 32 }
@@ -258,7 +258,7 @@ impl Pool {
         self.block.set_head(at, marks);
     }
 
-    /// Sets or clears `count` bits of a page from `bit` on, a whole word at a time.
+    /// Sets or clears `count` bits of a page from `bit` on, 32 bits at a time.
     pub fn set_whole_bits(&mut self, page: PageNo, bit: u32, count: u32, value: bool)
         requires there { (page.number < self.old.pages) × (bit < PAGE_WORDS) × (bit + count ≤ PAGE_WORDS) }
         requires aligned { (bit % 32 ≡ 0) × (count % 32 ≡ 0) }

@@ -19,14 +19,14 @@ impl Model for Roll {
 }
 
 impl Roll {
-    /// Returns the record of a pool without pages.
+    /// Returns, for contracts only, the lists of free pages and chains of a pool without pages.
     pub(crate) fn new() -> Roll
         ensures { result.lists ≡ no_pages }
     {
         Roll {}
     }
 
-    /// Returns the record of the lists after a change.
+    /// Returns, for contracts only, the free pages and the chains of a pool after a change.
     pub(crate) fn with(_before: &Roll, _change: &Change) -> Roll
         ensures { result.lists ≡ after _before.now.lists _change.now }
     {

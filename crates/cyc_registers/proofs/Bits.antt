@@ -1,4 +1,4 @@
--- Facts about bit masks of candidate slots (candidates for registers), bit by bit.
+-- Facts about bit masks that represent sets of slots (the candidates for registers), bit by bit.
 use Rattle.std.proofs.Common.{◌≡◌, ◌≢◌, ℕ, zero, suc, ◌+◌, ◌-◌, ◌*◌, ◌^◌, ◌%◌, ◌<◌, ◌≤◌, true, false, List, [], ◌∷◌, ◌++◌, length, refl, sym, ap, subst, ◌∙◌, arith, inl, inr}
 use Rattle.std.specs.Prelude.{bit_and, bit_xor, nat_le, nat_lt}
 use Rattle.std.specs.Int.{bit_at}

@@ -1,4 +1,4 @@
--- If the check of the slots' homes (their registers or memory) succeeds, then the homes are correct.
+-- If the check of the slots' homes (each is a register, memory or both) succeeds, then the homes are correct.
 use Rattle.std.proofs.Common.{◌≡◌, ℕ, zero, suc, ◌+◌, ◌<◌, ◌≤◌, true, false, List, [], ◌∷◌, ◌++◌, length, Some, None, refl, sym, ap, subst, ◌∙◌, arith, inl, inr}
 use Rattle.std.specs.Prelude.{◌⊎◌, ◌==◌, ◌||◌, ◌&&◌, Bool, nat_le, nat_lt, bit_and, bit_or, if◌then◌else◌, sum_by, take, slice_get}
 use Rattle.std.specs.Int.{bit_at}
@@ -30,7 +30,7 @@ use Rattle.cyc_registers.proofs.CheckedLiveness.{live_bit, led_bit, after_bit, c
 no_number : (k : ℕ) → None ≡ Some k → ⊥
 no_number k is = let e : None ≡ Some k = is in cc
 
--- A slot past the end of the list of homes has its home in memory.
+-- A slot past the end of the list of slots' homes (registers or memory) has its home in memory.
 past_homes : (hs : List Home) (slot : ℕ) → length hs ≤ slot → home_of hs slot ≡ homes.Memory
 past_homes [] slot past = refl
 past_homes (h ∷ hs) zero past = absurd (omega (arith, past))
@@ -70,11 +70,11 @@ module _ (program : Program) (r : Routine) (masks live holders : List ℕ) (call
     (sound : IsSound program r masks live calls clauses barred) (are : AreMasks masks MOST_CHOSEN) where
   -- ---- the home of one slot
 
-  -- Says that a slot is in a register only and is not live in a handler, or that no other slot has its register.
+  -- Says that a slot is in a register only and is not live in an exception handler, or that no other slot has its register.
   abbrev IsAloneAt : (slot k : ℕ) → Home → Type 0
   IsAloneAt slot k home = ((is_kept home ≡ false) × (bit_and clauses (mask_at masks slot) ≡ 0)) ⊎ (mask_at holders k ≡ mask_at masks slot)
 
-  -- The properties that the check of homes ensures for a slot's register.
+  -- The properties of a slot's register that are ensured by the check of the slots' homes (registers or memory).
   record Has (slot k : ℕ) (home : Home) : Type 0 where
     low : FIRST_REGISTER ≤ k
     high : k < FIRST_PRESERVED + saved
@@ -108,8 +108,8 @@ module _ (program : Program) (r : Routine) (masks live holders : List ℕ) (call
         let parts = and_parts (nat_le FIRST_REGISTER k) (nat_lt k (FIRST_PRESERVED + saved)) is in
         (leb-true FIRST_REGISTER k parts.0, ltb-true k (FIRST_PRESERVED + saved) parts.1)
 
-    -- A slot that the liveness table does not contain at the function's entry is not live there; a
-    -- candidate live at the entry is a parameter.
+    -- A slot that the liveness table does not contain at the function's entry is not live there. A candidate for a register that is live at
+    -- the entry is a parameter.
     only_parameters : (j : ℕ) → HasBit masks slot j → IsEntered → IsLiveAt program r slot 0 → slot < r.parameters
     only_parameters j has (inl below) wanted = below
     only_parameters j has (inr none) wanted =
@@ -222,18 +222,18 @@ module _ (program : Program) (r : Routine) (masks live holders : List ℕ) (call
     pub are_holders : AreHolders masks holders hs
     are_holders slot k its = ((has slot k its).some, (has slot k its).held)
 
-    -- The set of slots listed for a register contains the bits of the slots that have the register.
+    -- For each register, the set of slots that the table `holders` stores for it contains all slots that have the register.
     held_bit : (slot k j : ℕ) → HasRegister hs slot k → HasBit masks slot j → bit_at (mask_at holders k) j ≡ 1
     held_bit slot k j its bit =
         bit_within (mask_at masks slot) (mask_at holders k) j (eqb-true (bit_or (mask_at masks slot) (mask_at holders k)) (mask_at holders k) (has slot k its).held) bit
 
-    -- If a register's set contains only one slot, then no other slot has that register.
+    -- If the set of the slots that have a register contains only one slot, then no other slot has that register.
     only_holder : (a c k : ℕ) → mask_at holders k ≡ mask_at masks a → HasRegister hs c k → a ≡ c
     only_holder a c k same its =
         let (j, bit) = are.some c (has c k its).some in
         are.one a c j (subst (λ (n : ℕ). bit_at n j ≡ 1) same (held_bit c k j its bit)) bit
 
-    -- If a slot has a register, then the table `holders` has an entry for the register.
+    -- If a slot has a register, then the table `holders` contains a set of slots for this register.
     inside : (k j : ℕ) → bit_at (mask_at holders k) j ≡ 1 → k < length holders
     inside k j is = elim (cases_lt k (length holders)) [
       | inl below ↦ below
@@ -241,7 +241,7 @@ module _ (program : Program) (r : Routine) (masks live holders : List ℕ) (call
     ]
 
     module _ (groups : List ℕ) (grouped : AreGroups holders (length holders) groups) where
-      -- If two slots have one register and are in a set with at most one slot for each register, they are the same slot.
+      -- If two slots have the same register and are in a set with at most one slot for each register, they are the same slot.
       one_in : (set a c k j l : ℕ) → AreAlone groups set
           → HasRegister hs a k → HasRegister hs c k → HasBit masks a j → HasBit masks c l → bit_at set j ≡ 1 → bit_at set l ≡ 1 → a ≡ c
       one_in set a c k j l alone its_a its_c bit_a bit_c in_a in_c =
@@ -262,7 +262,7 @@ module _ (program : Program) (r : Routine) (masks live holders : List ℕ) (call
           ]
 
       module _ (meet : NeverMeet program r masks live groups (length r.code)) where
-        -- The slots that an instruction reads and writes, as masks of candidates.
+        -- The slots that an instruction reads and writes, as bit masks of candidates for registers.
         abbrev used : Instruction → Uses
         used i = uses_of program r.results masks i
 
@@ -279,7 +279,7 @@ module _ (program : Program) (r : Routine) (masks live holders : List ℕ) (call
             bit_left (mask_at live index) (write_mask masks program (instructions.MoveWords destination source count)) j is
         live_stands i index j is = is
 
-        -- If two slots have one register and both are live at one position in the code, then they are the same slot.
+        -- If two slots have the same register and both are live at the same code position, then they are the same slot.
         both_live : (index a c k : ℕ) → HasRegister hs a k → HasRegister hs c k → IsLiveAt program r a index → IsLiveAt program r c index → a ≡ c
         both_live index a c k its_a its_c live_a live_c =
             let (i, at) = live_there a index live_a in
@@ -298,8 +298,8 @@ module _ (program : Program) (r : Routine) (masks live holders : List ℕ) (call
           ]
         ]
           where
-            -- A slot that is in a register only is not live in a handler. If such a slot is live at a position or
-            -- in a handler, it is live at the position.
+            -- A slot that is in a register only is not live in an exception handler. If such a slot is live at a
+            -- code position or in a handler, it is live at the position.
             now : (slot k : ℕ) → HasRegister hs slot k → is_kept (home_of hs slot) ≡ false → IsLiveLater program r slot index → IsLiveAt program r slot index
             now slot k its unkept (inl here) = here
             now slot k its unkept (inr (at_try, first, handler, at, wanted)) = absurd (both_ways (is_kept (home_of hs slot)) unkept ((each slot).clause at_try first handler at wanted))
@@ -315,8 +315,8 @@ module _ (program : Program) (r : Routine) (masks live holders : List ℕ) (call
             let in_after : bit_at following j ≡ 1 = led_bit i index next j live led (live_bit program r masks live calls clauses barred sound a j are bit_a next wanted) in
             one_in_written index i at a d k j l its_a its_d bit_a bit_d in_written in_after
           where
-            -- If two slots have one register, one is written by an instruction, and the other is written or
-            -- live after it, then they are the same slot.
+            -- If two slots have the same register and an instruction writes one and writes the other or leaves it live, they are the same
+            -- slot.
             one_in_written : (index : ℕ) (i : Instruction) → At r index i → (a d k j l : ℕ) → HasRegister hs a k → HasRegister hs d k → HasBit masks a j → HasBit masks d l
                 → bit_at (write_mask masks program i) l ≡ 1 → bit_at (after_mask i index live) j ≡ 1 → a ≡ d
             one_in_written index i at a d k j l its_a its_d bit_a bit_d in_written in_after = are.one a d j bit_a (subst (λ (n : ℕ). HasBit masks d n) (sym same) bit_d)
@@ -359,7 +359,7 @@ module _ (program : Program) (r : Routine) (masks live holders : List ℕ) (call
             (bit_right (mask_at live index) (write_mask masks program i) l (among_bit masks destination count d l to bit_d))
 
         module _ (arrive : AreSingle groups (range_mask masks 0 r.parameters)) where
-          -- If two parameters have one register and one of them is live at the entry, then they are the same parameter.
+          -- If two parameters have the same register and one of them is live at the function's entry, then they are the same parameter.
           two_parameters : (a c k : ℕ) → HasRegister hs a k → HasRegister hs c k → a < r.parameters → c < r.parameters → a ≡ c
           two_parameters a c k its_a its_c below_a below_c =
               let (j, bit_a) = are.some a (has a k its_a).some in

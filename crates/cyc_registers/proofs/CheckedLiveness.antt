@@ -1,4 +1,4 @@
--- If the check of the liveness table succeeds, the table misses no position at which a candidate slot is live.
+-- If the check of the liveness table succeeds, the table contains every code position at which a candidate for a register is live.
 use Rattle.std.proofs.Common.{◌≡◌, ℕ, zero, suc, ◌+◌, true, false, ◌||◌, ◌&&◌, List, sym, subst, arith, inl, inr}
 use Rattle.std.specs.Prelude.{◌==◌, Bool, if◌then◌else◌, bit_and, bit_or}
 use Rattle.std.specs.Int.{bit_at}
@@ -119,7 +119,7 @@ module _ (masks : List ℕ) (slot j : ℕ) (has : HasBit masks slot j) where
   request_written_bit (requests.Allocate destination handle words) is = slot_bit destination is
   request_written_bit (requests.Free address) is = absurd (false≢true is)
 
-  -- The mask of writes contains each slot that the instruction writes and does not exclude from registers.
+  -- The mask of written slots contains each slot that the instruction writes, unless the instruction excludes the slot from registers.
   pub written_bit : (program : Program) (i : Instruction) → (bars i slot ≡ true → ⊥) → writes program i slot ≡ true → bit_at (write_mask masks program i) j ≡ 1
   written_bit program (instructions.Move destination source) free is = slot_bit destination is
   written_bit program (instructions.MoveWords destination source count) free is = among_bit masks destination count slot j is has
@@ -137,7 +137,7 @@ module _ (masks : List ℕ) (slot j : ℕ) (has : HasBit masks slot j) where
   written_bit program (instructions.Try first handler) free is = absurd (free is)
   written_bit program i free is = absurd (false≢true is)
 
-  -- The mask of writes contains no slot that the instruction does not write.
+  -- The mask of written slots contains no slot that the instruction does not write.
   module _ (program : Program) (next : ℕ) (are : AreMasks masks next) where
     other_slot : (number : ℕ) → (number == slot) ≡ false → bit_at (mask_at masks number) j ≡ 0
     other_slot number apart = other_bit masks next are slot j has number (eqb-false number slot apart)
@@ -169,7 +169,7 @@ module _ (masks : List ℕ) (slot j : ℕ) (has : HasBit masks slot j) where
 -- ---- a checked table
 
 module _ (program : Program) (r : Routine) (masks live : List ℕ) (calls clauses barred : ℕ) (sound : IsSound program r masks live calls clauses barred) where
-  -- The slots that an instruction reads and writes, as listed in the table of all instructions' reads and writes.
+  -- The slots that an instruction reads and writes, as stored in the table of all instructions' reads and writes.
   abbrev used : Instruction → Uses
   used i = uses_of program r.results masks i
 

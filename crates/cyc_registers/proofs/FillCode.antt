@@ -1,4 +1,4 @@
--- Each instruction listed as one whose first line may fill the delay slots of branches to it may indeed fill them.
+-- Each instruction that is marked as one whose first machine word may fill the delay slots of branches to it may indeed fill them.
 use Rattle.std.proofs.Common.{◌≡◌, ℕ, suc, ◌+◌, ◌<◌, Bool, false, true, List, length, Option, None, Some, sym, ap, subst, ◌∙◌, arith, inl, inr}
 use Rattle.std.specs.Prelude.{◌==◌, ◌&&◌, not, nat_lt, if◌then◌else◌, bit_and, bit_or, slice_get, slice_set}
 use Rattle.std.specs.Int.{bit_at}
@@ -27,7 +27,7 @@ use Rattle.cyc_registers.proofs.CheckedLiveness.{live_bit}
 -- ---- one branch at a time
 
 module _ (holders live : List ℕ) (hs : List Home) (code : List Instruction) (count : ℕ) (fills : List Bool) (left_so_far : AreLeft holders live hs code count fills) where
-  -- Excluding branch targets does not change the length of the list that marks the positions that fill delay slots.
+  -- Excluding branch targets does not change the length of the list of flags that mark the code positions that may fill delay slots.
   length-barring : (last : Instruction) → length (barring holders live hs code count last fills) ≡ length code
   length-barring (instructions.Branch comparison left right target) = go (nat_lt target (length fills) && not (may_fill holders live hs count (slice_get code target)))
     where
@@ -36,7 +36,7 @@ module _ (holders live : List ℕ) (hs : List Home) (code : List Instruction) (c
       go false = left_so_far.as_many
   length-barring i = left_so_far.as_many
 
-  -- A position that may fill delay slots after one more branch was examined could already fill them before.
+  -- A code position that may fill delay slots after one more branch was examined could already fill them before this branch was examined.
   fills_before : (target at : ℕ) (b : Bool) → fills_at (if b then slice_set fills at false else fills) target ≡ true → fills_at fills target ≡ true
   fills_before target at false is = is
   fills_before target at true is = elim (cases_eq target at) [
@@ -47,7 +47,7 @@ module _ (holders live : List ℕ) (hs : List Home) (code : List Instruction) (c
     | inr other ↦ sym (get_or-set_other fills at target false false other) ∙ is
   ]
 
-  -- The target of a branch is removed from the positions that fill delay slots if its instruction may not fill this branch's delay slot.
+  -- The target of a branch is unmarked as a position that fills delay slots if its instruction may not fill this branch's delay slot.
   barred_here : (index target : ℕ) (comparison : Comparison) (left right : Operand) (i : Instruction) → slice_get code target ≡ Some i
       → fills_at (barring holders live hs code count (instructions.Branch comparison left right target) fills) target ≡ true → may_fill holders live hs count (Some i) ≡ true
   barred_here index target comparison left right i there is = elim (cases_Bool (may_fill holders live hs count (Some i))) [
@@ -61,7 +61,7 @@ module _ (holders live : List ℕ) (hs : List Home) (code : List Instruction) (c
         ∙ (sym (ap (λ (b : Bool). fills_at (if b then slice_set fills target false else fills) target) barred) ∙ is)))
   ]
 
-  -- Examining one more instruction keeps the invariant on the positions that fill delay slots.
+  -- Examining one more instruction keeps the invariant on the code positions that may fill delay slots.
   pub more_barred : (last : Instruction) → slice_get code count ≡ Some last → AreLeft holders live hs code (count + 1) (barring holders live hs code count last fills)
   more_barred last at_last = record {
     as_many = length-barring last;
@@ -87,7 +87,7 @@ by_register holders (homes.Register register) k has = ap (mask_at holders) (let 
 
 module _ (program : Program) (r : Routine) (masks live holders : List ℕ) (calls clauses barred : ℕ) (sound : IsSound program r masks live calls clauses barred)
     (are : AreMasks masks MOST_CHOSEN) (hs : List Home) (right : AreHolders masks holders hs) where
-  -- If a slot's register is free after a code position, no slot with that register is live there.
+  -- If no slot that `holders` lists for a slot's register is live after a code position, no slot with that register is live there.
   free : (index slot a k : ℕ) → is_free holders live hs index slot ≡ true → HasRegister hs slot k → HasRegister hs a k → IsLiveAt program r a (suc index) → ⊥
   free index slot a k is has has_a wanted =
       let (j, bit) = are.some a (right a k has_a).0 in

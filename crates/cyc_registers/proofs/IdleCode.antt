@@ -1,4 +1,4 @@
--- The code positions listed as idle (needing no machine code) are idle.
+-- The code positions that are flagged as needing no machine code indeed need none.
 use Rattle.std.proofs.Common.{◌≡◌, ◌≢◌, ℕ, zero, suc, ◌+◌, ◌<◌, Bool, false, true, List, [], ◌∷◌, ◌++◌, length, Some, length-append, refl, sym, ap, subst, ◌∙◌, arith, inl, inr}
 use Rattle.std.specs.Prelude.{◌==◌, ◌&&◌, ◌||◌, not, nat_le, nat_lt, if◌then◌else◌, bit_and, slice_get, slice_set}
 use Rattle.std.proofs.lemmas.Bool.{and_parts, and_from, or_cases, cases_eq, leb-true, ltb-true, lt-ltb, eqb-true, false≢true, not_from_true, not-true}
@@ -115,7 +115,7 @@ flag_last : (flags : List Bool) (flag : Bool) → idle_at (flags ++ flag ∷ [])
 flag_last [] flag = refl
 flag_last (f ∷ flags) flag = flag_last flags flag
 
--- If some flags show that a code position needs no machine code, flags that mark more positions show this too.
+-- If a code position needs no machine code given some flagged positions, it also needs none if more positions are flagged as needing none.
 still_idle : (program : Program) (r : Routine) (hs : List Home) (flags more : List Bool) (index : ℕ) → ((k : ℕ) → idle_at flags k ≡ true → idle_at more k ≡ true)
     → (i : Instruction) → IsIdle program r hs flags index i → IsIdle program r hs more index i
 still_idle program r hs flags more index still (instructions.Move destination source) is = is
@@ -131,7 +131,7 @@ idle_before [] flag k is = absurd (false≢true is)
 idle_before (f ∷ flags) flag zero is = is
 idle_before (f ∷ flags) flag (suc k) is = idle_before flags flag k is
 
--- Says that for the first `count` instructions, the flags that mark instructions without machine code are right.
+-- Says that the first `count` flags are right: each tells if the instruction with its index needs no machine code.
 abbrev pub AreFirstIdle : Program → Routine → List Home → (count : ℕ) → List Bool → Type 0
 AreFirstIdle program r hs count flags = AreIdle program r hs flags × (length flags ≡ count)
 
@@ -155,7 +155,7 @@ more_idle program r hs count flags flag last (are, many) at idle = (each, omega 
 
 -- ---- jumps over idle places
 
--- A jump that skips only idle positions (ones that need no machine code) is idle.
+-- A jump that skips only code positions that need no machine code needs no machine code itself.
 pub over_idle : (program : Program) (r : Routine) (hs : List Home) (flags : List Bool) (index : ℕ) (i : Instruction) → LeadsOver flags index i → IsIdle program r hs flags index i
 over_idle program r hs flags index (instructions.Jump target) leads = leads
 over_idle program r hs flags index i leads = absurd leads

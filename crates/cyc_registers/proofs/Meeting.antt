@@ -1,4 +1,4 @@
--- Sets of slots that contain at most one slot of each group of slots sharing a register, before and after an instruction.
+-- Sets of slots that contain at most one of the slots that share a register, before and after an instruction.
 use Rattle.std.proofs.Common.{◌≡◌, ℕ, true, List, inl, inr}
 use Rattle.std.specs.Prelude.{◌==◌, bit_and, bit_or}
 use Rattle.std.specs.Int.{bit_at}
@@ -19,8 +19,8 @@ module _ (groups : List ℕ) where
       still k has =
           bit_both known slots k (bit_within set known k (eqb-true (bit_or set known) known within) (bit_before set slots k has)) (bit_between set slots k has)
 
-  -- The set of live slots after an instruction consists of the slots that stay live and the written ones. The set of live slots after an
-  -- instruction contains at most one slot of each group of slots that share a register.
+  -- The set of live slots after an instruction consists of the slots that stay live and the written ones. The set of slots live after an
+  -- instruction contains at most one of the slots that share a register.
   pub alone_after : (standing written following : ℕ) → AreAlone groups standing → AreApart groups written following
       → AreAlone groups (bit_or (bit_and standing following) written)
   alone_after standing written following alone apart number slots j l is first second =

@@ -1,4 +1,5 @@
-//! Register allocation: spill costs, liveness, the assignment of registers, and the instructions that then need no machine code.
+//! Register allocation: spill costs, liveness, the assignment of registers to slots, and the instructions that need no machine
+//! code after this assignment.
 ghost use Rattle.std.specs.Prelude.{◌≡◌, ◌≤◌, IfOk};
 ghost use Rattle.cyc_plain.specs.inside.Program.{routine_of};
 ghost use Rattle.cyc_registers.specs.inside.Interference.{AreHomes};
@@ -18,7 +19,8 @@ use crate::uses::all_uses;
 use cyc_plain::{Function, Plain};
 use std::alloc::{AllocError, Global};
 
-/// The result of register allocation: the homes of a function's slots, and the instructions that need no machine code.
+/// The result of register allocation: the homes of a function's slots (a register, memory or both), and the
+/// instructions that then need no machine code.
 #[derive(Drop)]
 pub struct Allocation {
     /// The home of each slot: a register, memory, or both.
@@ -27,12 +29,12 @@ pub struct Allocation {
     pub saved: usize,
     /// True for each instruction that needs no machine code (is idle). Instructions past the end of the list are not idle.
     pub idle: Vec<bool>,
-    /// True for each instruction whose word may be computed before the branches to it, in their delay slots. Instructions past the
-    /// end of the list fill no delay slots.
+    /// True for each instruction whose first machine word may be computed before the branches to it, in their delay slots.
+    /// Instructions past the end of the list fill no delay slots.
     pub fills: Vec<bool>,
 }
 
-/// Returns a list of homes in which every slot is in memory.
+/// Returns a list of slots' homes in which every slot is in memory.
 fn in_memory(alloc: Global, plain: &Plain, function: &Function) -> Result<Vec<Home>, AllocError>
     ensures { IfOk result (λ homes. AreHomes plain.now (routine_of function.now) 0 homes.items) }
 {
@@ -55,8 +57,9 @@ fn memory_alone(alloc: Global, plain: &Plain, function: &Function) -> Result<All
     })
 }
 
-/// Returns a home for each slot of a function, and the instructions that need no machine code with these homes. The slots with the highest
-/// spill costs get registers, which slots may share if they are never live at once. At most `most` callee-saved registers are used.
+/// Returns a home (register, memory or both) for each slot of a function, and the instructions that need no machine code with these homes.
+/// The slots with the highest spill costs get registers, which slots may share if they are never live at once. At most `most` callee-saved
+/// registers are used.
 pub fn allocate(
     alloc: Global,
     plain: &Plain,

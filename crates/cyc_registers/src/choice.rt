@@ -1,4 +1,5 @@
-//! Chooses the slots that get registers, and their registers. This code is unverified: the checker validates the homes.
+//! Chooses the slots that get registers, and their registers. The code of this choice is unverified: a checker
+//! validates the chosen homes (a register, memory or both) of the slots.
 ghost use Rattle.std.specs.Prelude.{◌≤◌, IfOk};
 
 use crate::home::{FIRST_PRESERVED, FIRST_REGISTER, Home, MOST_BOTH, MOST_SAVED, REGISTERS_END};
@@ -12,7 +13,7 @@ use std::alloc::{AllocError, Global};
 /// The number of caller-saved registers that slots may have.
 const MOST_LOST: usize = (FIRST_PRESERVED - FIRST_REGISTER) as usize;
 
-/// The size of tables indexed by register.
+/// The number of entries of tables that are indexed by register number.
 const REGISTERS: usize = REGISTERS_END as usize;
 
 const SLOTS: usize = MOST_CHOSEN as usize;
@@ -23,34 +24,35 @@ const PRESERVED_PRICE: u64 = 4;
 /// The extra cost of a register for a parameter, which is passed in memory and loaded from there.
 const ARRIVAL_PRICE: u64 = 2;
 
-/// The maximal number of times that a slot is considered: once for each kind of register, and once more.
+/// The maximal number of times that a slot is considered for a register: once for each kind of register that it may get, and once more.
 const MOST_LOOKS: u32 = 4;
 
-/// Stands for the absence of a register in the tables of the register choice.
+/// Stands for the absence of a register in the tables with which registers are chosen.
 const NO_REGISTER: u8 = 0;
 
-/// A slot under consideration, with the savings that each kind of register would bring.
+/// A slot that is considered for a register, with the savings that each kind of register would bring.
 #[derive(Clone, Copy)]
 struct Candidate {
     slot: usize,
     mask: u64,
-    /// The slots that interfere with the candidate, so that they must not share its register.
+    /// The slots that interfere with this candidate for a register, so that they must not share its register.
     meets: u64,
-    /// The slots that are connected with the candidate by moves and do not interfere with it.
+    /// The slots that move instructions connect with this candidate for a register, and that do not interfere with it.
     moves: u64,
-    /// The savings of giving the candidate a caller-saved register.
+    /// The execution cost saved by giving this slot a caller-saved register.
     lost: u64,
-    /// True if a caller-saved register would be in addition to the slot's word in memory.
+    /// True if the slot would keep its word in memory in addition to a caller-saved register.
     is_both: bool,
-    /// The savings of giving the candidate a callee-saved register that is already saved for another slot.
+    /// The execution cost saved by giving this slot a callee-saved register that is already saved for another slot.
     preserved: u64,
-    /// True if the candidate needs a caller-saved register and may find none to share.
+    /// True if this slot needs a caller-saved register and may find none that it can share with other slots.
     is_wide: bool,
-    /// An upper bound of the candidate's savings; it is 0 once the candidate has a home.
+    /// An upper bound of the execution cost that a register for this slot saves; it is 0 once the slot's home (register or memory) is
+    /// chosen.
     gain: u64,
 }
 
-/// A possible home of a slot, with the savings that it brings.
+/// A possible home of a slot (a register, memory or both), with the execution cost that it saves.
 #[derive(Clone, Copy)]
 struct Offer {
     home: Home,
@@ -58,16 +60,16 @@ struct Offer {
     gain: u64,
 }
 
-/// The registers assigned to candidates so far.
+/// The registers assigned to slots so far.
 #[derive(Drop)]
 struct Registers {
     /// The slots that have each register, indexed by register.
     slots: [u64; REGISTERS],
-    /// The register of each candidate, indexed by candidate number.
+    /// The register of each slot that may get one, indexed by the number that identifies the slot as a candidate for registers.
     given: [u8; SLOTS],
-    /// For each candidate, the register in which it is passed as an argument or parameter, so that passing it needs no move.
+    /// For each slot that may get a register, the register in which it is passed as an argument or parameter, to save a move.
     wanted: [u8; SLOTS],
-    /// The candidates that are passed in each register, indexed by register.
+    /// For each register, the slots that are passed in it as an argument or parameter.
     handed: [u64; REGISTERS],
     /// The number of caller-saved registers that no slot has.
     free: usize,
@@ -77,11 +79,11 @@ struct Registers {
     most: usize,
     /// The number of slots that have a register in addition to memory.
     both: usize,
-    /// The number of slots not yet considered that may find no register to share; free registers are reserved for them.
+    /// The number of slots not yet considered that may find no register to share with other slots; free registers are reserved for them.
     wide: usize,
 }
 
-/// The chosen homes of slots, and the number of callee-saved registers to save for them.
+/// The chosen homes of slots (registers or memory), and the number of callee-saved registers to save for them.
 #[derive(Drop)]
 pub(crate) struct Chosen {
     pub(crate) homes: Vec<Home>,
@@ -94,7 +96,7 @@ const NO_OFFER: Offer = Offer {
     gain: 0,
 };
 
-/// Returns the register that a list gives for the lowest-numbered candidate of a set.
+/// Returns the register that a list, indexed by candidate number, contains for the lowest-numbered candidate of a set.
 fn register_at(list: &[u8], slots: u64) -> u8 {
     match list.get(slots.trailing_zeros() as usize) {
         Some(register) => *register,
@@ -148,13 +150,13 @@ impl Candidate {
 }
 
 impl Registers {
-    /// Returns true if the register is caller-saved and held by none of the slots in `others`.
+    /// Returns true if the register is caller-saved and none of the slots in the set `others` has it.
     fn is_open(&self, register: u8, others: u64) -> bool {
         (FIRST_REGISTER..FIRST_PRESERVED).contains(&register)
             && mask_at(&self.slots, register as usize) & others == 0
     }
 
-    /// Returns the first caller-saved register that is listed for one of the given candidates and is held by no interfering slot.
+    /// Returns the first caller-saved register that a list contains for one of the slots in a set, and that no interfering slot has.
     fn first_open(&self, list: &[u8], slots: u64, others: u64) -> Option<u8> {
         let mut left = slots;
         for _ in 0..MOST_CHOSEN {
@@ -170,7 +172,8 @@ impl Registers {
         None
     }
 
-    /// Returns the first register of a range that is held by a slot connected with the candidate by a move, and by no interfering slot.
+    /// Returns the first register of a range that a slot connected with the candidate by a move instruction has, and that no
+    /// interfering slot has.
     fn moved(&self, first: u8, end: u8, candidate: &Candidate) -> Option<u8> {
         if candidate.moves == 0 {
             return None;
@@ -184,8 +187,8 @@ impl Registers {
         None
     }
 
-    /// Returns a register that other slots have but no interfering one. Instructions on one register cannot be reordered. So the
-    /// function prefers the register of a slot connected by a move, else the register with the fewest slots.
+    /// Returns a register that other slots have but no interfering one. Instructions that use the same register cannot be
+    /// reordered. So the function prefers the register of a slot connected by a move, else the register with the fewest slots.
     fn shared(&self, first: u8, end: u8, candidate: &Candidate) -> Option<u8> {
         let mut found = self.moved(first, end, candidate);
         if found.is_some() {
@@ -203,7 +206,8 @@ impl Registers {
         found
     }
 
-    /// Returns a caller-saved register that no slot has, if possible one in which no interfering slot is passed.
+    /// Returns a caller-saved register that no slot has, if possible one in which no interfering slot is passed
+    /// as an argument or parameter.
     fn free(&self, candidate: &Candidate) -> Option<u8> {
         let mut found = None;
         for register in FIRST_REGISTER..FIRST_PRESERVED {
@@ -217,9 +221,9 @@ impl Registers {
         found
     }
 
-    /// Returns a caller-saved register that none of the interfering slots has. The function first tries the register of a slot that a
-    /// move connects with the candidate. If that register is not free, the function tries the registers in which the candidate or a slot
-    /// connected by a move is passed. The function returns another free register only while more than the reserved ones are left.
+    /// Returns a caller-saved register that none of the interfering slots has. The function first tries the register of a slot that a move
+    /// connects with the candidate slot. If an interfering slot has that register, the function tries those in which the candidate slot or
+    /// a slot connected by a move is passed. The function returns another free register only while more than the reserved ones are left.
     fn lost(&self, candidate: &Candidate, others: u64) -> Option<u8> {
         let moved = self.first_open(&self.given, candidate.moves, others);
         if moved.is_some() {
@@ -242,7 +246,7 @@ impl Registers {
         }
     }
 
-    /// Returns the best caller-saved register for a candidate. A slot live after a call keeps its word in memory too, and shares its
+    /// Returns the best caller-saved register for a slot. A slot live after a call keeps its word in memory too, and shares its
     /// register with no slot.
     fn lost_offer(&self, candidate: &Candidate) -> Offer {
         let is_both = candidate.is_both;
@@ -273,7 +277,7 @@ impl Registers {
         FIRST_PRESERVED + self.saved.min(MOST_SAVED) as u8
     }
 
-    /// Returns a callee-saved register for a candidate: one that is already saved for another slot, or the next one.
+    /// Returns a callee-saved register for a slot: one that is already saved for another slot, or the next one.
     fn preserved_offer(&self, candidate: &Candidate) -> Offer {
         let next = self.next_preserved();
         match self.shared(FIRST_PRESERVED, next, candidate) {
@@ -321,7 +325,7 @@ impl Registers {
                 .is_none()
     }
 
-    /// Returns the best home that is still available for a slot.
+    /// Returns the home (a register, memory or both) of a slot that saves most, among those still available.
     fn offer(&self, candidate: &Candidate) -> Offer {
         if self.is_near_preserved(candidate) {
             return self.preserved_offer(candidate);
@@ -333,8 +337,8 @@ impl Registers {
         better(lost, self.preserved_offer(candidate))
     }
 
-    /// Gives a slot the best home that is still available, if that saves as much as was expected. Returns the savings that
-    /// the slot may still have, or 0.
+    /// Gives a slot the home (register, memory or both) that saves most among those still available, if it saves as much
+    /// as was expected. Returns the execution cost that a register may still save for the slot, or 0.
     fn settle(&mut self, homes: &mut Vec<Home>, candidate: &Candidate) -> u64 {
         let offer = self.offer(candidate);
         if offer.gain < candidate.gain {
@@ -351,7 +355,7 @@ impl Registers {
     }
 }
 
-/// Returns the index of the candidate with the greatest expected savings.
+/// Returns the index of the slot for which a register is expected to save most.
 fn next_of(candidates: &[Candidate]) -> usize {
     let mut next = 0;
     let mut gain = 0;
@@ -365,7 +369,7 @@ fn next_of(candidates: &[Candidate]) -> usize {
 }
 
 impl Registers {
-    /// Returns the table of all registers, none of which is assigned to a slot.
+    /// Returns the table of the registers and their slots, in which no register is assigned to a slot.
     fn new(most: usize) -> Registers {
         Registers {
             slots: [0; REGISTERS],
@@ -380,7 +384,7 @@ impl Registers {
         }
     }
 
-    /// Notes that slots passed at one position in an argument or parameter list should share a register.
+    /// Notes that the slots of a set, passed at one index of an argument or parameter list, prefer the register for that index.
     fn want(&mut self, mask: u64, place: Option<usize>) {
         match place {
             Some(place) if place < MOST_LOST => {
@@ -396,7 +400,7 @@ impl Registers {
         }
     }
 
-    /// Returns the candidates of a function that may have a register, and notes the preferred register of each.
+    /// Returns the slots of a function that may have a register, and notes the preferred register of each.
     fn candidates(
         &mut self,
         alloc: Global,
@@ -431,7 +435,8 @@ impl Registers {
     }
 }
 
-/// Returns homes for the slots of a function that may save `most` registers. Slots with the greatest savings get registers first.
+/// Returns homes (registers, memory or both) for the slots of a function that may save `most` callee-saved registers. Slots for
+/// which a register saves most get registers first.
 pub(crate) fn choose(
     alloc: Global,
     function: &Function,

@@ -1,4 +1,4 @@
-//! The instructions whose word may be computed before the branches that target them, in delay slots.
+//! The instructions whose first machine word may be computed before the branches that target them, in the delay slots of these branches.
 ghost use Rattle.std.specs.Prelude.{◌≡◌, ◌<◌, length, slice_get, IfOk};
 ghost use Rattle.cyc_plain.specs.inside.Program.{routine_of};
 ghost use Rattle.cyc_registers.specs.inside.Fills.{AreFillable};

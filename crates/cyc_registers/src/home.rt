@@ -22,8 +22,8 @@ pub const MOST_BOTH: usize = 6;
 pub enum Home {
     /// In memory only.
     Memory,
-    /// The slot's word is in memory and also in the given register, which no other slot has.
+    /// The slot's word is in memory and also in this register, which no other slot has.
     Both { register: u8 },
-    /// The slot's word is only in the given register.
+    /// The slot's word is only in this register.
     Register { register: u8 },
 }

@@ -58,7 +58,7 @@ fn is_unused(masks: &[u64], live: &[u64], homes: &[Home], index: usize, slot: us
     0 < mask && (mask_at(live, index + 1) & mask == 0 && is_unkept(homes, slot))
 }
 
-/// Returns true if the slot at a given offset from the first slot is in a register only and not live after the instruction.
+/// Returns true if the slot at a given offset from a first slot is in a register only and not live after the instruction.
 fn is_unused_after(
     masks: &[u64],
     live: &[u64],
@@ -76,7 +76,7 @@ fn is_unused_after(
     is_unused(masks, live, homes, index, first + offset)
 }
 
-/// Returns true if `count` slots from `first` on are in registers only and not live after the instruction.
+/// Returns true if `count` slots from slot `first` on are in registers only and not live after the instruction.
 fn are_unused(
     masks: &[u64],
     live: &[u64],
@@ -95,7 +95,7 @@ fn are_unused(
     are
 }
 
-/// Returns true if the first home is a register only, and the second home has the first one's register.
+/// Returns true if the first home (register, memory or both) is a register only, and the second home has the same register.
 fn shares_register(home: Home, other: Home) -> bool
     ensures { result ≡ checks.shares_register home other }
 {
@@ -115,7 +115,7 @@ fn home_at(homes: &[Home], slot: usize) -> Home
     }
 }
 
-/// Returns true if the word that a move copies is already in the destination slot's register, which is the only home of this slot.
+/// Returns true if the word that a move copies is already in the destination slot's register, and this slot is not also in memory.
 fn is_there(homes: &[Home], slot: usize, source: Operand) -> bool
     ensures { result ≡ checks.is_there homes.now slot source }
 {
@@ -174,7 +174,7 @@ fn idle_at(idle: &[bool], index: usize) -> bool
     }
 }
 
-/// Returns true if the instructions from `first` up to `end`, exclusive, are marked as needing no machine code.
+/// Returns true if the instructions from index `first` up to `end`, exclusive, are marked as needing no machine code.
 fn are_idle(idle: &[bool], first: usize, end: usize) -> bool
     ensures { result ≡ true → rules.AreIdleFrom idle.now first end }
 {

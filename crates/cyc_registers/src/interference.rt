@@ -1,4 +1,5 @@
-//! The interference graph of the candidates, and the moves between them. The graph is unverified: the checker validates the homes.
+//! The interference graph of the slots that may get registers, and the move instructions between these slots. The graph is
+//! unverified: a checker validates the chosen homes (registers or memory) of the slots.
 ghost use Rattle.std.specs.Prelude.{◌≡◌, length};
 
 use crate::liveness::{MOST_CHOSEN, after_mask};
@@ -7,23 +8,24 @@ use crate::spill_costs::goes_on;
 use crate::uses::Uses;
 use cyc_plain::{Function, Instruction};
 
-/// The number of rows of the interference graph: one for each candidate.
+/// The number of rows of the interference graph: one for each slot that may get a register.
 const ROWS: usize = MOST_CHOSEN as usize;
 
-/// For each candidate number, the candidates that interfere with the candidate and those connected with it by moves.
+/// For each slot that may get a register, the slots that interfere with it and those connected with it by move instructions.
 #[derive(Drop)]
 pub(crate) struct Interference {
-    /// For each candidate, the candidates that are live simultaneously with it, so that they must not share a register.
+    /// For each slot that may get a register, the slots that are live simultaneously with it, so that they must not share a register.
     meets: [u64; ROWS],
-    /// For each candidate, the candidates that should share its register, so that the move between them needs no machine code.
+    /// For each slot that may get a register, the slots that should share its register, so that the move between them needs no
+    /// machine code.
     moves: [u64; ROWS],
-    /// The candidates whose rows of the interference graph may be non-empty.
+    /// The slots whose rows of the interference graph may be non-empty.
     met: u64,
     /// True if control can fall through from the last visited instruction to the next.
     goes: bool,
 }
 
-/// Adds a set of slots to the neighbours of each candidate in `to`.
+/// Adds a set of slots to the neighbours, in the interference graph, of each slot in the set `to`.
 fn add(rows: &mut [u64; ROWS], to: u64, slots: u64) {
     let mut left = to;
     for _ in 0..MOST_CHOSEN {
@@ -83,12 +85,12 @@ impl Interference {
         interference
     }
 
-    /// Returns the candidates that interfere with the candidate of a given mask.
+    /// Returns the slots that interfere with the slot that has a given one-bit mask.
     pub(crate) fn meets(&self, mask: u64) -> u64 {
         mask_at(&self.meets, mask.trailing_zeros() as usize)
     }
 
-    /// Returns the candidates connected by moves with the candidate of a given mask.
+    /// Returns the slots connected by move instructions with the slot that has a given one-bit mask.
     pub(crate) fn moves(&self, mask: u64) -> u64 {
         mask_at(&self.moves, mask.trailing_zeros() as usize)
     }

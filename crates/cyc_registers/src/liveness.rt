@@ -1,5 +1,5 @@
-//! Liveness of the candidate slots: a table of the code positions where each may be live, computed by backward passes over the
-//! code, and the table's check.
+//! Liveness of the slots that may get registers: a table of the code positions where each may be live, and the check of this
+//! table. The table is computed by backward passes over the code.
 ghost use Rattle.std.specs.Prelude.{◌≡◌, ◌<◌, ◌≤◌, length, true, bit_and, bit_or, IfOk};
 ghost use Rattle.cyc_plain.specs.inside.Program.{routine_of};
 ghost use Rattle.cyc_registers.specs.inside.LivenessTable as checks;
@@ -13,7 +13,7 @@ use std::alloc::{AllocError, Global};
 /// The maximal number of candidate slots of a function: a mask has 64 bits.
 pub(crate) const MOST_CHOSEN: u32 = 64;
 
-/// The mask that contains all candidate numbers.
+/// The bit mask that contains all slots that may get registers.
 pub(crate) const ALL_NUMBERS: u64 = 0xffff_ffff_ffff_ffff;
 
 /// The maximal number of further passes over the liveness table. Each level of nested loops takes one pass.
@@ -36,7 +36,7 @@ pub(crate) fn after_mask(instruction: Instruction, index: usize, live: &[u64]) -
     }
 }
 
-/// Returns the mask of all candidates except those that an instruction writes.
+/// Returns the bit mask of all slots that may get registers, except those that an instruction writes.
 fn unwritten_mask(uses: Uses) -> u64
     ensures { result ≡ checks.unwritten_mask uses }
 {
@@ -62,7 +62,7 @@ fn call_mask(uses: Uses, instruction: Instruction, index: usize, live: &[u64]) -
     }
 }
 
-/// Returns the slots that must also be in memory: those live in the handler that an instruction opens.
+/// Returns the slots that must also be in memory: those live in the exception handler that an instruction opens.
 fn clause_mask(instruction: Instruction, live: &[u64]) -> u64
     ensures { result ≡ checks.clause_mask instruction live.now }
 {
@@ -78,21 +78,21 @@ pub(crate) fn is_within(part: u64, whole: u64) -> bool
     part | whole == whole
 }
 
-/// The code positions at which the candidates of a function are live.
+/// The code positions at which the slots of a function that may get registers are live.
 #[derive(Drop)]
 pub(crate) struct Lives {
-    /// For each position in the code, the candidates that may be live there.
+    /// For each position in the code, the slots that may get registers and may be live there.
     pub(crate) live: Vec<u64>,
     /// The slots that are live after a call that does not return them.
     pub(crate) calls: u64,
     /// The slots that are live in an exception handler.
     pub(crate) clauses: u64,
-    /// The slots that are excluded from registers.
+    /// The slots that instructions exclude from registers.
     pub(crate) barred: u64,
 }
 
-/// The input of the check of homes: a function of a program, the masks of its slots, the slots that its instructions use, and
-/// the positions at which slots are live.
+/// The input of the check of slots' homes: a function of a program, the bit masks of its slots, the slots that its
+/// instructions use, and the positions at which slots are live.
 #[derive(Clone, Copy)]
 pub(crate) struct Analysis<'a> {
     pub(crate) plain: &'a Plain,
@@ -121,8 +121,8 @@ fn is_sound_at(
                 && is_within(uses.bars, lives.barred)))
 }
 
-/// Returns true if the liveness table misses no code position where a chosen slot is live. The check also ensures that the sets of
-/// slots live after a call, live in a handler, or excluded from registers miss no such slot.
+/// Returns true if the liveness table misses no code position where a slot that gets a register is live. The check also ensures
+/// that the sets of slots live after a call, live in a handler, or excluded from registers lack no such slot.
 pub(crate) fn is_sound(
     plain: &Plain,
     function: &Function,
@@ -216,7 +216,8 @@ fn loops_end(function: &Function, backward: &[usize]) -> usize
     }
 }
 
-/// Returns the code positions where the candidates may be live. `backward` lists the positions of backward jumps in ascending order.
+/// Returns for each code position the slots that may get registers and may be live there. `backward` lists the positions of backward
+/// jumps in ascending order.
 pub(crate) fn liveness_of(
     alloc: Global,
     function: &Function,
@@ -242,8 +243,8 @@ pub(crate) fn liveness_of(
     Ok(lives)
 }
 
-/// Returns true if a slot may have a register: it is a candidate, no instruction excludes it, and at the entry it is not live or is a
-/// parameter.
+/// Returns true if a slot may have a register: it is a numbered candidate, no instruction excludes it, and at the function's entry it
+/// is not live or is a parameter.
 pub(crate) fn may_have(function: &Function, masks: &[u64], lives: &Lives, slot: usize) -> bool
     ensures { result ≡ checks.may_have masks.now lives.now.live.items lives.now.barred function.now.parameters slot }
 {

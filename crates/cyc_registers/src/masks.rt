@@ -1,5 +1,5 @@
-//! The candidate slots that an instruction reads and writes, as bit masks: bit j stands for candidate number j, and `masks` maps each slot
-//! to its bit.
+//! The slots that an instruction reads and writes, among the candidates for registers, as bit masks. Bit j stands for candidate number j,
+//! and `masks` maps each slot to its bit.
 ghost use Rattle.std.specs.Prelude.{◌≡◌, ◌+◌};
 ghost use Rattle.cyc_plain.specs.inside.Program.{routine_at};
 ghost use Rattle.cyc_registers.specs.inside.Masks as masks_of;
@@ -7,7 +7,7 @@ ghost use Rattle.cyc_registers.specs.inside.Masks as masks_of;
 use crate::moves::is_crossing;
 use cyc_plain::{Instruction, Operand, Plain, RECORD_WORDS, Request};
 
-/// Returns the mask of a slot or of a position in the code, or 0 if there is none.
+/// Returns the entry of a list of masks for a slot or for a code position, or 0 if there is no entry.
 pub(crate) fn mask_at(masks: &[u64], place: usize) -> u64
     ensures { result ≡ masks_of.mask_at masks.now place }
 {
@@ -26,7 +26,7 @@ fn operand_mask(masks: &[u64], operand: Operand) -> u64
     }
 }
 
-/// Returns the mask of the slot at a given offset from the first slot.
+/// Returns the bit mask of the slot at a given offset from a first slot.
 fn mask_after(masks: &[u64], first: usize, offset: usize) -> u64
     ensures { result ≡ masks_of.mask_at masks.now (first + offset) }
 {

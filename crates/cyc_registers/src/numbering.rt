@@ -1,4 +1,4 @@
-//! Numbers the candidate slots; each number is given as a mask with one bit.
+//! Numbers the slots that may get registers; each number is given as a mask with one bit.
 ghost use Rattle.std.specs.Prelude.{◌≤◌, IfOk};
 ghost use Rattle.cyc_registers.specs.inside.Masks.{AreMasks};
 
@@ -6,8 +6,8 @@ use crate::liveness::MOST_CHOSEN;
 use crate::spill_costs::SpillCosts;
 use std::alloc::{AllocError, Global};
 
-/// Appends the mask of one more slot: the next free bit if the slot is chosen and a bit is left, else 0. Returns the number of the next
-/// free bit.
+/// Appends the bit mask of one more slot: the next free bit if the slot is chosen as a candidate for registers and a bit is left, else
+/// 0. Returns the number of the next free bit.
 fn number(masks: &mut Vec<u64>, next: u32, is_chosen: bool) -> Result<u32, AllocError>
     requires numbered { AreMasks masks.old.items next }
     requires few { next ≤ MOST_CHOSEN }
@@ -22,7 +22,7 @@ fn number(masks: &mut Vec<u64>, next: u32, is_chosen: bool) -> Result<u32, Alloc
     Ok(next + 1)
 }
 
-/// Returns the masks of all slots: the slots with the highest spill costs become candidates and get numbers in order.
+/// Returns the bit masks of all slots: the slots with the highest spill costs become candidates for registers and get numbers in order.
 pub(crate) fn masks_of(alloc: Global, costs: &SpillCosts) -> Result<Vec<u64>, AllocError>
     ensures { IfOk result (λ masks. AreMasks masks.items MOST_CHOSEN) }
 {

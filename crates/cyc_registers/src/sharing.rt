@@ -1,4 +1,4 @@
-//! The check of homes: slots may share a register only if no two of the slots are live simultaneously.
+//! The check of the slots' homes: slots may share a register only if no two of the slots are live simultaneously.
 ghost use Rattle.std.specs.Prelude.{◌≡◌, ◌<◌, ◌≤◌, length, true, sum_by, take, IfOk};
 ghost use Rattle.cyc_plain.specs.inside.Program.{routine_of};
 ghost use Rattle.cyc_registers.specs.inside.Interference.{AreHomes, both_count, home_of, saved_count};
@@ -13,7 +13,7 @@ use crate::uses::Uses;
 use cyc_plain::{Function, Instruction, Plain};
 use std::alloc::{AllocError, Global};
 
-/// The size of tables indexed by register.
+/// The number of entries of tables that are indexed by register number.
 const REGISTERS: usize = REGISTERS_END as usize;
 
 /// Returns true if a set has at most one slot.
@@ -23,7 +23,8 @@ fn is_single(slots: u64) -> bool
     slots & slots.saturating_sub(1) == 0
 }
 
-/// Returns the slots that have each register, indexed by register. The result is unverified: it is checked together with the homes.
+/// Returns for each register the slots that have it, indexed by register. The result is unverified: it is checked together with the
+/// slots' homes.
 pub(crate) fn holders_of(masks: &[u64], homes: &[Home]) -> [u64; REGISTERS] {
     let mut holders = [0; REGISTERS];
     for slot in 0..homes.len() {
@@ -39,7 +40,7 @@ pub(crate) fn holders_of(masks: &[u64], homes: &[Home]) -> [u64; REGISTERS] {
     holders
 }
 
-/// Appends a set of slots to the groups of slots that share a register, if the set has more than one slot.
+/// Appends a set of slots, which share a register, to the list of such sets, if the set has more than one slot.
 fn add_group(groups: &mut Vec<u64>, slots: u64) -> Result<(), AllocError>
     ensures { IfOk result (λ done. groups.new.items ≡ checks.with_group groups.old.items slots) }
 {
@@ -50,7 +51,7 @@ fn add_group(groups: &mut Vec<u64>, slots: u64) -> Result<(), AllocError>
     Ok(())
 }
 
-/// Returns the groups: for each register that more than one slot has, the set of these slots.
+/// Returns the sets of slots that share a register: one set for each register that more than one slot has.
 pub(crate) fn groups_of(alloc: Global, holders: &[u64]) -> Result<Vec<u64>, AllocError>
     ensures { IfOk result (λ groups. checks.AreGroups holders.now (length holders.now) groups.items) }
 {
@@ -68,7 +69,8 @@ fn is_given(saved: usize, register: u8) -> bool
     FIRST_REGISTER <= register && (register as usize) < FIRST_PRESERVED as usize + saved
 }
 
-/// Returns true if a slot's home is correct, as far as the slot alone decides, and the set listed for its register includes the slot.
+/// Returns true if a slot's home (register or memory) is correct in isolation, and the set of slots stored for its register includes
+/// the slot.
 fn suits(analysis: &Analysis, holders: &[u64], saved: usize, slot: usize, home: Home) -> bool
     requires { saved ≤ MOST_SAVED }
     ensures { result ≡ checks.suits analysis.now.masks.now analysis.now.lives.now.live.items holders.now analysis.now.lives.now.calls
@@ -93,7 +95,7 @@ fn suits(analysis: &Analysis, holders: &[u64], saved: usize, slot: usize, home: 
     }
 }
 
-/// Returns true if the home of each slot is correct, as far as this depends on the slot alone.
+/// Returns true if the home (register, memory or both) of each slot is correct, as far as this depends on the slot alone.
 fn all_suit(analysis: &Analysis, holders: &[u64], saved: usize, homes: &[Home]) -> bool
     requires { saved ≤ MOST_SAVED }
     ensures { result ≡ true → checks.AllSuit analysis.now.masks.now analysis.now.lives.now.live.items holders.now analysis.now.lives.now.calls
@@ -139,7 +141,7 @@ fn both_in_all(homes: &[Home]) -> usize
     both
 }
 
-/// Returns the number of callee-saved registers among the homes of the first `count` slots.
+/// Returns how many callee-saved registers the first `count` slots have.
 fn saved_in_first(homes: &[Home], count: usize) -> usize
     ensures { result ≡ sum_by saved_count (take count homes.now) }
 {
@@ -162,8 +164,8 @@ fn are_single(groups: &[u64], set: u64) -> bool
     true
 }
 
-/// Returns true if a set contains at most one slot of each group (slots that share a register), given that the set `known` does. A
-/// subset of a set with at most one slot of each group has at most one slot of each group.
+/// Returns true if a set contains at most one slot of each group of slots that share a register, given that the set `known` does.
+/// A subset of a set with at most one slot of each group has at most one slot of each group.
 fn are_alone(groups: &[u64], known: u64, set: u64) -> bool
     requires { checks.AreAlone groups.now known }
     ensures { result ≡ true → checks.AreAlone groups.now set }
@@ -255,7 +257,7 @@ fn may_share(
             && never_meet(plain, function, masks, uses, live, groups))
 }
 
-/// Returns true if the homes are correct for a function that saves `saved` callee-saved registers.
+/// Returns true if the homes of the slots (registers or memory) are correct for a function that saves `saved` callee-saved registers.
 pub(crate) fn are_right(
     analysis: &Analysis,
     holders: &[u64],

@@ -1,10 +1,10 @@
-//! Spill costs: the cost of keeping each slot in memory, used to select the candidates for registers. The code is unverified: the checker
-//! validates the homes, no matter which slots are selected.
+//! Spill costs: the cost of keeping each slot in memory, used to select the slots that may get registers. The code is unverified: a
+//! checker validates the chosen homes (registers or memory), no matter which slots are selected.
 use crate::liveness::MOST_CHOSEN;
 use cyc_plain::{Function, Instruction, Operand, Request};
 use std::alloc::{AllocError, Global};
 
-/// `GAIN_BITS` is the number of bits of a gain (a number of savings), and `HIGHEST_GAIN_BIT` is its highest bit.
+/// `GAIN_BITS` is the number of bits of a gain (the execution cost that a register saves), and `HIGHEST_GAIN_BIT` is its highest bit.
 const GAIN_BITS: usize = 64;
 
 const HIGHEST_GAIN_BIT: u64 = 1 << 63;
@@ -14,13 +14,13 @@ const HIGHEST_GAIN_BIT: u64 = 1 << 63;
 struct SpillCost {
     reads: u64,
     writes: u64,
-    /// The position among arguments or parameters at which the slot is passed most often.
+    /// The index in an argument or parameter list at which the slot is passed most often.
     place: usize,
-    /// The estimated number of times that the slot is passed at the position `place`.
+    /// The estimated number of times that the slot is passed at the index `place` of an argument or parameter list.
     handed: u64,
 }
 
-/// The savings that registers bring for the slots of a function.
+/// The execution cost that registers save for the slots of a function.
 #[derive(Drop)]
 pub(crate) struct SpillCosts {
     slots: Vec<SpillCost>,
@@ -29,12 +29,12 @@ pub(crate) struct SpillCosts {
     pub(crate) backward: Vec<usize>,
 }
 
-/// The facts about loops at one position in the code.
+/// The facts about loops and jumps at one position in the code.
 #[derive(Clone, Copy)]
 struct Place {
     /// The code position after the last backward jump to the current position, or 0 if there is none.
     end: usize,
-    /// The number of loops that end just before the code position.
+    /// The number of loops that end at the instruction just before this code position.
     closing: u64,
     /// True if a reachable jump from an earlier position targets the code position.
     is_reached: bool,
@@ -124,7 +124,7 @@ impl SpillCosts {
         self.write(slot, weight);
     }
 
-    /// Counts that a slot is passed as the argument or parameter at the position `place`.
+    /// Counts that a slot is passed at the index `place` of an argument or parameter list.
     fn hand_over(&mut self, slot: usize, place: usize, weight: u64) {
         if let Some(cost) = self.slots.get_mut(slot) {
             if place == cost.place {
@@ -150,7 +150,7 @@ impl SpillCosts {
     }
 
     /// Counts the reads that registers would make cheaper, the writes and the jump target of an instruction that is executed `weight`
-    /// times. Returns true if control may continue after the instruction.
+    /// times. Returns true if control may continue at the next instruction.
     fn look_at(&mut self, places: &mut Vec<Place>, instruction: Instruction, weight: u64) -> bool {
         match instruction {
             Instruction::Move {
@@ -190,7 +190,7 @@ impl SpillCosts {
     }
 
     /// Counts the reads and writes of slots by an instruction that neither computes nor branches. Returns true if control may continue
-    /// after the instruction.
+    /// at the next instruction.
     fn look_at_other(
         &mut self,
         places: &mut Vec<Place>,
@@ -285,8 +285,8 @@ impl SpillCosts {
         Ok(places)
     }
 
-    /// Computes the spill cost of each slot. Each enclosing loop multiplies the weight of an instruction by ten, and unreachable
-    /// instructions count nothing. Targets of backward jumps count as reachable.
+    /// Computes the spill cost of each slot. Each enclosing loop multiplies an instruction's estimated number of executions by
+    /// ten, and unreachable instructions count nothing. Targets of backward jumps count as reachable.
     fn weigh(&mut self, code: &[Instruction], places: &mut Vec<Place>) {
         let mut depth: u64 = 0;
         let mut weight = weight_in(depth);
@@ -312,7 +312,7 @@ impl SpillCosts {
         }
     }
 
-    /// Returns the savings of giving the slot a register as its only home.
+    /// Returns the execution cost saved by giving the slot a register as its only home.
     pub(crate) fn most_at(&self, slot: usize) -> u64 {
         match self.slots.get(slot) {
             Some(gain) => gain.reads.saturating_add(gain.writes),
@@ -320,7 +320,7 @@ impl SpillCosts {
         }
     }
 
-    /// Returns the savings of giving the slot a register in addition to memory; the register is reloaded after each call.
+    /// Returns the execution cost saved by giving the slot a register in addition to memory; the register is reloaded after each call.
     pub(crate) fn beside_at(&self, slot: usize) -> u64 {
         match self.slots.get(slot) {
             Some(gain) => gain.reads.saturating_sub(self.calls),
@@ -328,7 +328,7 @@ impl SpillCosts {
         }
     }
 
-    /// Returns the argument or parameter position at which the slot is passed most often, if it is passed.
+    /// Returns the index in argument or parameter lists at which the slot is passed most often, if it is passed.
     pub(crate) fn place_at(&self, slot: usize) -> Option<usize> {
         match self.slots.get(slot) {
             Some(cost) if cost.handed > 0 => Some(cost.place),
@@ -341,7 +341,8 @@ impl SpillCosts {
         self.slots.len()
     }
 
-    /// Returns, for each number of leading zero bits, the number of slots whose savings have as many leading zero bits.
+    /// Returns, for each number n of leading zero bits, how many slots have savings (the cost that a register saves)
+    /// with n leading zero bits.
     fn counts(&self, alloc: Global) -> Result<Vec<u32>, AllocError> {
         let mut counts: Vec<u32> = vec![in alloc; 0; GAIN_BITS]?;
         for slot in 0..self.slots.len() {
@@ -352,7 +353,7 @@ impl SpillCosts {
         Ok(counts)
     }
 
-    /// Chooses the candidates for registers: the slots with the greatest savings.
+    /// Chooses the slots that may get registers: those for which a register saves most execution cost.
     pub(crate) fn choice(&self, alloc: Global) -> Result<Choice, AllocError> {
         let mut choice = Choice {
             least: 1,
@@ -375,8 +376,8 @@ impl SpillCosts {
     }
 }
 
-/// The choice of candidates: the slots whose savings are at least `least`, and up to `left` slots whose savings are at
-/// least half of `least`.
+/// The choice of slots that may get registers: the slots whose savings are at least `least`, and up to `left` slots
+/// whose savings are at least half of `least`.
 #[derive(Clone, Copy)]
 pub(crate) struct Choice {
     least: u64,
@@ -384,7 +385,7 @@ pub(crate) struct Choice {
 }
 
 impl Choice {
-    /// Returns true if a slot with the given savings becomes a candidate.
+    /// Returns true if a slot for which a register has these savings becomes a candidate for registers.
     pub(crate) fn takes(&mut self, gain: u64) -> bool {
         if gain >= self.least {
             return true;
@@ -397,7 +398,7 @@ impl Choice {
     }
 }
 
-/// Returns the savings that registers bring for the slots of a function.
+/// Returns the execution cost that registers save for each slot of a function.
 pub(crate) fn spill_costs_of(alloc: Global, function: &Function) -> Result<SpillCosts, AllocError> {
     let none = SpillCost {
         reads: 0,

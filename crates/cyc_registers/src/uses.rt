@@ -1,4 +1,5 @@
-//! The candidates that each instruction of a function reads and writes, computed once and then looked up by the instruction's position.
+//! The slots that each instruction of a function reads and writes, among those that may get registers. These slots are computed once
+//! and then looked up by the instruction's index.
 ghost use Rattle.std.specs.Prelude.{◌≡◌, length, IfOk};
 ghost use Rattle.cyc_plain.specs.inside.Program.{routine_of};
 ghost use Rattle.cyc_registers.specs.inside.Masks as masks_of;
@@ -7,7 +8,7 @@ use crate::masks::{bar_mask, read_mask, write_mask};
 use cyc_plain::{Function, Instruction, Plain};
 use std::alloc::{AllocError, Global};
 
-/// The candidate slots that an instruction reads, writes and excludes from registers, as masks.
+/// The slots that an instruction reads, writes and excludes from registers, as bit masks of the candidates for registers.
 #[derive(Clone, Copy)]
 pub(crate) struct Uses {
     /// The slots that the instruction reads.
@@ -29,7 +30,8 @@ fn uses_of(plain: &Plain, results: usize, masks: &[u64], instruction: Instructio
     }
 }
 
-/// Returns, for each instruction of a function, the candidate slots that it reads, writes and excludes from registers.
+/// Returns, for each instruction of a function, the slots that it reads, writes and excludes from registers, among the
+/// candidates for registers.
 pub(crate) fn all_uses(
     alloc: Global,
     plain: &Plain,

@@ -1,4 +1,4 @@
-//! Finds the beginnings of declarations in a text from its bytes, even if the text has no tokens or no syntax tree.
+//! Finds where the declarations of a text begin, from the text's bytes, even if the text has no tokens or no syntax tree.
 //!
 //! A declaration begins with one of certain keywords, outside of all brackets and after a semicolon or a brace. A line that looks like
 //! the signature of a struct or a function also begins a declaration, so that an unclosed bracket does not extend past its declaration.
@@ -89,7 +89,7 @@ fn is_head(line: &[u8]) -> bool {
     }
 }
 
-/// The nesting depth of brackets, and a flag that is true if the last token ends a declaration.
+/// The nesting depths of braces and of other brackets, and a flag that is true if the last token ends a declaration.
 #[derive(Clone, Copy)]
 struct Depth {
     braces: usize,
@@ -97,7 +97,7 @@ struct Depth {
     is_ended: bool,
 }
 
-/// Returns the nesting depth after one more byte, which is not a blank.
+/// Returns the nesting depths of brackets after one more byte, which is not a blank.
 fn following_byte(depth: Depth, byte: u8) -> Depth {
     let Depth { braces, others, .. } = depth;
     let (braces, others) = match byte {
@@ -114,7 +114,7 @@ fn following_byte(depth: Depth, byte: u8) -> Depth {
     }
 }
 
-/// Returns the number of declarations that begin before the last signature whose body has not begun, updated by one more byte of the text.
+/// Returns how many declarations begin before the last function signature whose body has not begun, updated by one more byte of the text.
 fn heads_after(heads: usize, starts: usize, depth: Depth, byte: u8) -> usize {
     match byte {
         b'(' if depth.braces == 0 => starts,
@@ -149,7 +149,8 @@ pub fn starts_of(alloc: Global, text: &[u8]) -> Result<Vec<usize>, AllocError> {
             };
         } else if !byte.is_ascii_whitespace() {
             if *byte == b'{' && depth.is_ended {
-                // Text between a signature and its body declares parameters in the old style of C, so no declaration begins there.
+                // Text between a function signature and its body declares parameters in the old style of C, so no declaration of
+                // the program begins there.
                 starts.truncate(heads);
             }
             heads = heads_after(heads, starts.len(), depth, *byte);
@@ -160,7 +161,7 @@ pub fn starts_of(alloc: Global, text: &[u8]) -> Result<Vec<usize>, AllocError> {
     Ok(starts)
 }
 
-/// Returns the extent of the declaration that contains a byte offset, in a text of this length whose declarations begin at `starts`.
+/// Returns the byte range of the declaration that contains a byte offset, in a text of this length whose declarations begin at `starts`.
 pub fn extent_of(starts: &[usize], length: usize, place: usize) -> Extent {
     let mut extent = Extent {
         start: 0,

@@ -5,7 +5,7 @@ use cyc_words::Fault;
 use std::alloc::{AllocError, Global};
 use std::mem::ManuallyDrop;
 
-/// The type of the object to which a pointer refers.
+/// The type of the object to which a pointer points, as far as the advice distinguishes such types.
 #[derive(Clone, Copy)]
 enum Target<'t> {
     Int,
@@ -20,7 +20,7 @@ struct Object<'t> {
     target: Target<'t>,
     is_array: bool,
     is_unique: bool,
-    /// True if the type of the pointer allows NULL.
+    /// True if the pointer may be null: its type has a pointer sign that allows NULL.
     may_lack: bool,
 }
 
@@ -54,7 +54,7 @@ fn item_up_to(tokens: &[Token], last: usize) -> &[Token] {
     tokens.get(start..=last).unwrap_or(&[])
 }
 
-/// Returns the type at the beginning of some tokens, as the type of a pointer's object, and the tokens after it.
+/// Returns the type with which some tokens begin, as the type of the object that a pointer points to, and the tokens after this type.
 fn target_of<'t>(tokens: &'t [Token]) -> Option<(Target<'t>, &'t [Token])> {
     match tokens {
         [first, rest @ ..] if first.kind == TokenKind::Keyword(Keyword::Int) => {
@@ -70,7 +70,7 @@ fn target_of<'t>(tokens: &'t [Token]) -> Option<(Target<'t>, &'t [Token])> {
     }
 }
 
-/// Returns true if a pointer sign with this region name belongs to unique pointers. Returns `None` if the region is not the heap or the
+/// Returns true if a pointer sign with this region name declares a unique pointer. Returns `None` if the region is not the heap or the
 /// unique region.
 fn is_unique(text: &[u8], region: Option<&Token>) -> Option<bool> {
     match region {
@@ -109,15 +109,15 @@ fn object_of<'t>(text: &[u8], tokens: &'t [Token]) -> Option<Object<'t>> {
     })
 }
 
-/// A declaration without a value, with a flag that is true if the variable is used to compute its own first value.
+/// A declaration of a variable without a value, with a flag that is true if the variable is used to compute its own first value.
 #[derive(Clone, Copy)]
 struct Declared<'t> {
     tokens: &'t [Token],
     is_built: bool,
 }
 
-/// Returns the last declaration without a value, before the token at the index `place`, of the variable used there. Returns `None` if
-/// a statement in between assigns the variable.
+/// Returns the declaration without a value of the variable that is used at the token with index `place`; if several precede it, the
+/// last. Returns `None` if a statement in between assigns the variable.
 fn declaration_before<'t>(text: &[u8], tokens: &'t [Token], place: usize) -> Option<Declared<'t>> {
     let name = match tokens.get(place) {
         Some(token) => spelled(text, token),
@@ -157,7 +157,7 @@ fn line_of<'a>(text: &'a [u8], tokens: &[Token]) -> Option<&'a [u8]> {
     }
 }
 
-/// Returns the advice on a pointer that is declared without a value and used to build its own value, for example to extend a list.
+/// Returns the advice on a pointer that is declared without a value and used to compute its own first value, as when extending a list.
 fn words_on_built(alloc: Global, declared: &[u8]) -> Result<Vec<u8>, AllocError> {
     let mut words = Vec::new(alloc);
     words.extend_from_slice(b"hint: give it a value where it is declared: ")?;
@@ -194,7 +194,7 @@ fn words_on_object(
     Ok(words)
 }
 
-/// Returns the advice, as a hint line, on the pointer used at a fault, if it is declared without a value and never assigned before.
+/// Returns the advice, as a hint line, on the pointer used at a fault, if it is declared without a value and not assigned before.
 /// Returns `None` if memory runs out.
 pub fn words_on_empty(alloc: Global, text: &[u8], fault: Fault) -> Option<Vec<u8>> {
     let tokens = ManuallyDrop::new(lex(alloc, text).ok()?);

@@ -1,30 +1,31 @@
 //! Finds the tokens that could replace an unexpected token, or follow at the premature end of a text.
 //!
-//! The expected tokens are found by trial: the text up to the fault is parsed again with each candidate on a line after it. A
-//! candidate fits if the parser does not reject the text at the candidate. If the text before the declaration with the fault is a
-//! complete program, only that declaration is parsed.
+//! The expected tokens are found by trial: the text up to the fault is parsed again with each possible token on a line after it.
+//! A token is expected if the parser does not reject the text at this token. If the text before the declaration with the fault is
+//! a complete program, only that declaration is parsed.
 use crate::declarations::{extent_of, starts_of};
 use crate::reading::tree_of;
 use cyc_words::{Code, Fault};
 use std::alloc::{AllocError, Global};
 use std::mem::ManuallyDrop;
 
-/// The greatest number of expected tokens listed in a message.
+/// The greatest number of expected tokens that a message names.
 const MOST: usize = 3;
 
-/// The first token of a construct, and the name of the construct in messages.
+/// The first token of a construct of the grammar, and the name of the construct in messages.
 type Candidate = (&'static str, &'static str);
 
-/// A group of constructs that can begin at the same points of a text, in the order in which messages list them.
+/// A group of grammatical constructs that can begin at the same points of a text, in the order in which messages list them.
 #[derive(Clone, Copy)]
 struct Group {
-    /// A token that fits wherever a construct of this group can begin, and where no construct of another group can; empty if no token does.
+    /// A token that the grammar allows wherever a construct of this group can begin, and where no construct of another group can; empty if
+    /// there is no such token.
     token: &'static str,
     candidates: &'static [Candidate],
 }
 
-/// The groups of constructs, in the order in which they are tried. A construct that is part of a listed one is not listed separately; for
-/// example, a name is not listed if an expression fits.
+/// The groups of grammatical constructs, in the order in which they are tried. A construct with which another one of the groups can begin
+/// is not named separately; for example, a name is not named if an expression is possible.
 const GROUPS: &[Group] = &[
     Group {
         token: "/",
@@ -127,7 +128,8 @@ pub fn text_before(text: &[u8], line: u32, column: u32) -> &[u8] {
     text
 }
 
-/// Returns the part of the text that each trial parses. The text before this part is a complete program, or empty.
+/// Returns the last part of the text up to the fault, which is parsed for each token that is tried. The text
+/// before this part is a complete program, or empty.
 fn part_before<'a>(alloc: Global, before: &'a [u8]) -> Result<&'a [u8], AllocError> {
     let starts = starts_of(alloc, before)?;
     let start = extent_of(&starts, before.len(), before.len()).start;
@@ -149,7 +151,7 @@ fn part_before<'a>(alloc: Global, before: &'a [u8]) -> Result<&'a [u8], AllocErr
 struct Trial {
     alloc: Global,
     text: Vec<u8>,
-    /// The length of the text without the token that is tried.
+    /// The length of the text without the token that is tried at its end.
     length: usize,
     /// The line of the token that is tried.
     line: u32,
@@ -191,7 +193,7 @@ impl Trial {
         }
     }
 
-    /// Returns the names of the constructs of a group that can begin after the text.
+    /// Returns the names of the constructs of a group that can begin at the end of the text.
     fn names_of(&mut self, group: &Group) -> Result<Vec<&'static str>, AllocError> {
         let mut names = Vec::new(self.alloc);
         if !group.token.is_empty() && !self.goes_on(group.token)? {
@@ -239,8 +241,8 @@ fn line_of(alloc: Global, names: &[&'static str]) -> Result<Vec<u8>, AllocError>
     Ok(line)
 }
 
-/// Returns the constructs that can begin at the fault of a text, as a line, if the fault is an unexpected token or end. Returns `None` if
-/// memory runs out.
+/// Returns a line with the names of the constructs that can begin at a fault, if the fault is an unexpected token or end. Returns `None`
+/// if memory runs out.
 pub fn expected_at(alloc: Global, text: &[u8], fault: Fault) -> Option<Vec<u8>> {
     if !matches!(fault.code, Code::UnexpectedToken | Code::UnexpectedEnd) {
         return None;

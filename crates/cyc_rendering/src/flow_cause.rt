@@ -1,4 +1,4 @@
-//! Explains why a variable is empty or locked where it is used, by the source position where it became empty or locked.
+//! Explains why a used variable is empty (its value was moved) or locked (its value is lent), by the source position where it became so.
 use crate::declarations::quoted_length;
 use crate::expected::text_before;
 use crate::reading::tree_of;
@@ -9,8 +9,8 @@ use cyc_words::{Code, Fault, Span};
 use std::alloc::Global;
 use std::fmt;
 
-/// Returns the position where the variable of a text's first fault became empty or locked, if there is one. The fault must be a flow
-/// fault. Returns `None` if memory runs out.
+/// Returns the source position where the variable of a text's first fault became empty or locked, if there is one. The fault must be
+/// one of the flow rules. Returns `None` if memory runs out.
 pub fn cause_of(alloc: Global, text: &[u8], fault: Fault) -> Option<Cause> {
     match fault.code {
         Code::EmptyVariable | Code::LockedVariable | Code::LoopEmptiesVariable => {}
@@ -25,7 +25,7 @@ pub fn cause_of(alloc: Global, text: &[u8], fault: Fault) -> Option<Cause> {
     explained.cause
 }
 
-/// Returns true if the name at a source position is the argument of a call of this function.
+/// Returns true if the name at a source position is the argument of a call of the function with this name.
 fn is_given_to(function: &[u8], text: &[u8], line: u32, column: u32) -> bool {
     let before = excerpt_at(text, line, column).before;
     match before.strip_suffix(function) {
@@ -61,7 +61,7 @@ fn goal_of(text: &[u8], line: u32, column: u32) -> Goal {
     }
 }
 
-/// Returns true if a `catch` stands between a source position and that of a fault.
+/// Returns true if a `catch` stands in the text between a source position and the position of a fault.
 fn is_after_try(text: &[u8], span: Span, fault: Fault) -> bool {
     let before = text_before(text, fault.line, fault.column);
     match before.strip_prefix(text_before(text, span.line, span.column)) {
@@ -76,13 +76,13 @@ fn is_after_try(text: &[u8], span: Span, fault: Fault) -> bool {
     }
 }
 
-/// Returns true if the variable at a source position is a key that a declaration opens.
+/// Returns true if the variable at a source position is a key with which a declaration opens a dynamic region.
 fn is_opened(text: &[u8], line: u32, column: u32) -> bool {
     is_given_to(b"open(", text, line, column)
 }
 
-/// Returns the words on a fault, which depend on how the variable became empty or locked. In the words, `%` stands for the variable's
-/// name, and `@` for the position where this happened.
+/// Returns the words of the message on a fault, which depend on how the variable became empty or locked. In the words, `%` stands for
+/// the variable's name, and `@` for the source position where it became so.
 fn title_of(text: &[u8], fault: Fault, cause: Cause) -> &'static str {
     let goal = goal_of(text, cause.span.line, cause.span.column);
     match (cause.change, fault.code, goal) {
@@ -101,8 +101,8 @@ fn title_of(text: &[u8], fault: Fault, cause: Cause) -> &'static str {
     }
 }
 
-/// Returns the words of a message on the change that made a variable empty or locked. If a variable was assigned or locked but is
-/// reported as empty, the body of a `try` may have emptied it.
+/// Returns the words of a message on the move, assignment or lock that made a variable empty or locked. If a variable was
+/// assigned or locked but is reported as empty, the body of a `try` may have emptied it.
 fn words_of(text: &[u8], code: Code, cause: Cause) -> &'static str {
     let span = cause.span;
     match (cause.change, code, goal_of(text, span.line, span.column)) {
@@ -117,7 +117,7 @@ fn words_of(text: &[u8], code: Code, cause: Cause) -> &'static str {
     }
 }
 
-/// Returns the line on which the block ends that contains a source position.
+/// Returns the line on which the block that contains a source position ends.
 fn end_of_block(text: &[u8], span: Span) -> Option<u32> {
     let start = text_before(text, span.line, span.column).len();
     let rest = text.get(start..)?;
@@ -174,7 +174,7 @@ fn advice_on_move(text: &[u8], fault: Fault, span: Span) -> &'static str {
     }
 }
 
-/// Returns the advice on a fault with a known cause, if it is more specific than the advice for the fault's code.
+/// Returns the advice on a fault whose variable became empty or locked at a known position, if it is more specific than the code's advice.
 pub fn advice_for(text: &[u8], fault: Fault, cause: Cause) -> Option<&'static str> {
     match (cause.change, fault.code) {
         (Change::Moved, Code::EmptyVariable) => Some(advice_on_move(text, fault, cause.span)),
@@ -198,7 +198,7 @@ pub fn name_at(text: &[u8], line: u32, column: u32) -> &[u8] {
     }
 }
 
-/// Writes the first line of the explanation of a fault with a known cause.
+/// Writes the first line of the explanation of a fault whose variable became empty or locked at a known source position.
 #[derive(Drop)]
 pub struct Headline<'a> {
     pub text: &'a [u8],
@@ -232,7 +232,7 @@ impl fmt::Display for Headline<'_> {
     }
 }
 
-/// The words on the change of a variable that caused a fault, with the variable's name.
+/// The words on the move, assignment or lock of a variable that caused a fault, with the variable's name.
 #[derive(Drop)]
 pub struct Deed<'a> {
     pub text: &'a [u8],

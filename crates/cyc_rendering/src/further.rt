@@ -1,7 +1,6 @@
-//! Finds the faults of tokens, grammar and flow that remain in a text once its first fault is repaired.
+//! Finds the faults of tokens, of grammar and of the flow rules that remain in a text once its first fault is repaired.
 //!
-//! If a text has no tokens or no syntax tree, the declarations with a fault of tokens or grammar are blanked out, and the
-//! remaining text is parsed.
+//! If a text has no tokens or no syntax tree, declarations with faults of tokens or grammar are replaced by blanks, and the rest parsed.
 ghost use Rattle.std.specs.Prelude.{◌≤◌, IfSome, length};
 ghost use Rattle.cyc_front.specs.Front.{IsRefusedText};
 
@@ -28,7 +27,7 @@ pub fn is_between(first: Span, fault: Fault, last: Span) -> bool {
 
 // ---- flow
 
-/// Returns the number of functions up to and including the one that contains a fault, or the number of all functions if none contains it.
+/// Returns how many functions there are up to and including the one with the fault, or the number of all functions if none contains it.
 fn count_up_to(functions: &[Function], fault: Fault) -> usize
     ensures { result ≤ length functions.now }
 {
@@ -73,7 +72,7 @@ pub fn tell_flow(
 
 // ---- tokens and grammar
 
-/// Returns true if a fault's code is one of the lexer's.
+/// Returns true if a fault's code is one that the lexer reports.
 fn is_of_token(code: Code) -> bool {
     matches!(
         code,
@@ -81,7 +80,7 @@ fn is_of_token(code: Code) -> bool {
     )
 }
 
-/// Replaces a part of a text by blanks and keeps its line feeds.
+/// Replaces a byte range of a text by blanks and keeps its line feeds.
 fn make_blank(text: &mut [u8], start: usize, end: usize) {
     for byte in text.iter_mut().take(end).skip(start) {
         if *byte != b'\n' {
@@ -90,8 +89,8 @@ fn make_blank(text: &mut [u8], start: usize, end: usize) {
     }
 }
 
-/// Returns the text from the byte offset `end` on, preceded by as many empty lines and blanks as the omitted part has. Positions in the
-/// remaining text are unchanged, and the omitted part is not parsed again.
+/// Returns the text from the byte offset `end` on, after as many empty lines and blanks as the omitted text has. Source positions in
+/// the remaining text are unchanged, and the omitted text is not parsed again.
 fn rest_in_place(alloc: Global, text: &[u8], end: usize) -> Result<Vec<u8>, AllocError> {
     let mut left = Vec::new(alloc);
     let mut column = 0_usize;
@@ -125,8 +124,8 @@ fn refused_reading(alloc: Global, text: &[u8]) -> Option<Fault>
     }
 }
 
-/// Reports further faults of tokens or grammar. After a fault of a token, it reports the faults of the text without the declaration that
-/// contains this token. After a fault of grammar, it reports those of the later declarations.
+/// Reports the faults of tokens or grammar after a first one. After a fault of a token, it reports the faults of the text without the
+/// declaration that contains this token. After a fault of grammar, it reports those of the later declarations.
 pub fn tell_readings(
     alloc: Global,
     text: &[u8],
@@ -139,7 +138,7 @@ pub fn tell_readings(
     for _ in 0..MOST_FURTHER {
         let place = text_before(text, fault.line, fault.column).len();
         let Extent { start, end } = extent_of(&starts, text.len(), place);
-        // The remaining text is a suffix of the whole text, so byte offsets are counted from their common end.
+        // The text that remains to be parsed is a suffix of the whole text, so byte offsets are counted from the common end of both.
         let gone = text.len().saturating_sub(left.len());
         let end = end.saturating_sub(gone);
         if is_of_token(fault.code) {
@@ -150,7 +149,7 @@ pub fn tell_readings(
         let Some(found) = refused_reading(alloc, &left) else {
             return Ok(());
         };
-        // If no declaration remains in the text, then the end of the text leaves no declaration incomplete.
+        // If no declaration remains in the text, then its end is not reported as a fault, since no declaration is incomplete there.
         if found.code == Code::UnexpectedEnd && starts_of(alloc, &left)?.is_empty() {
             return Ok(());
         }

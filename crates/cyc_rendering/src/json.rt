@@ -10,7 +10,7 @@ use std::alloc::{AllocError, Global};
 
 // ---- ranges
 
-/// The operators of more than one byte, longest first, and the two bytes that begin a comment.
+/// The operators that consist of more than one byte, longest first, and the two bytes that begin a comment.
 const SIGNS: &str = ":=:~&&~||~==~!=~<=~>=~<<~>>~->~/*";
 
 /// Returns the length of the name or number at the beginning of a text.
@@ -35,7 +35,7 @@ fn number_length(text: &[u8]) -> usize {
 }
 
 /// Returns the length of the token at the beginning of a text. The length is 1 for a byte that begins no token and for each operator that
-/// is not listed.
+/// is not in the list of longer operators.
 fn token_length(text: &[u8]) -> usize {
     match text {
         [] | [b'\n', ..] => return 0,
@@ -54,7 +54,7 @@ fn token_length(text: &[u8]) -> usize {
     name_length(text).max(1)
 }
 
-/// Returns the bytes of a text from a line and column on.
+/// Returns the bytes of a text from a line and column to the end of the text.
 fn text_from(text: &[u8], line: u32, column: u32) -> &[u8] {
     let start = text_before(text, line, column).len();
     text.get(start..).unwrap_or(&[])
@@ -66,7 +66,7 @@ fn token_at(text: &[u8], line: u32, column: u32) -> &[u8] {
     rest.get(..token_length(rest)).unwrap_or(rest)
 }
 
-/// Returns the range of `length` bytes from a line and column on.
+/// Returns the source range of `length` bytes that begins at a line and column.
 fn range_of(line: u32, column: u32, length: usize) -> Range {
     let length = u32::try_from(length).unwrap_or(0);
     Range {
@@ -77,13 +77,13 @@ fn range_of(line: u32, column: u32, length: usize) -> Range {
     }
 }
 
-/// Returns the range of the token at a source position.
+/// Returns the source range of the token at a source position.
 fn range_at(text: &[u8], span: Span) -> Range {
     let token = token_at(text, span.line, span.column);
     range_of(span.line, span.column, token.len())
 }
 
-/// Returns the source range of a fault. The fault of a missing `main` has no token, so its range is empty.
+/// Returns the source range of a fault. The fault that `main` is missing has no token, so its range is empty.
 fn range_of_fault(text: &[u8], fault: Fault) -> Range {
     let Fault { code, line, column } = fault;
     if code == Code::BadMain && (line, column) == (1, 1) {
@@ -158,8 +158,8 @@ fn change_by<'a>(hint: &'a str, token: &str) -> Option<Change<'a>> {
     None
 }
 
-/// Returns the edit that a hint describes for the token in this range. A hint about a misspelled keyword yields no edit,
-/// since the keyword stands before the token.
+/// Returns the edit that a hint describes for the token in this source range. A hint about a misspelled keyword yields
+/// no edit, since the keyword is an earlier token than the one at the fault.
 fn edit_by<'a>(hint: &'a str, code: Code, token: &[u8], range: Range) -> Option<Edit<'a>> {
     if code == Code::UnexpectedToken && hint.starts_with("did you mean") {
         return None;
@@ -178,12 +178,13 @@ fn edit_by<'a>(hint: &'a str, code: Code, token: &[u8], range: Range) -> Option<
 
 // ---- output lines
 
-/// Returns the text, or `None` if it is empty.
+/// Returns the text itself, or `None` if it is empty.
 fn if_any(text: &str) -> Option<&str> {
     if text.is_empty() { None } else { Some(text) }
 }
 
-/// Returns the second source position that belongs to a fault, if there is one.
+/// Returns the second source position for a fault, if there is one: where the variable's state changed, or a position that the explanation
+/// mentions.
 fn other_place(message: &Message<'_>) -> Option<Span> {
     match message.refusal.cause {
         Some(cause) => Some(cause.span),
@@ -191,7 +192,7 @@ fn other_place(message: &Message<'_>) -> Option<Span> {
     }
 }
 
-/// Returns the words about the second source position of a fault.
+/// Returns the words of the message about the second source position of a fault.
 fn words_on_place(alloc: Global, message: &Message<'_>) -> Result<String, AllocError> {
     let Message { text, refusal, .. } = *message;
     match refusal.cause {
@@ -275,7 +276,7 @@ fn name_of(warning: Warning) -> &'static str {
     }
 }
 
-/// Returns the JSON entry for a warning about this file, with this message.
+/// Returns the JSON object for a warning about this source file, with this message.
 fn entry_of_warning<'a>(file: &'a str, message: &'a str, text: &[u8], found: &Found) -> Entry<'a> {
     Entry {
         kind: "warning",

@@ -1,5 +1,5 @@
-//! The texts of faults and warnings for human readers, as lines and as JSON objects, without explanations that need an analysis of
-//! the rule.
+//! The texts of faults and warnings for human readers, as lines and as JSON objects. Explanations that need an analysis of the
+//! violated rule are in another crate.
 #![tactic(auto)]
 
 pub use expected::expected_at;

@@ -7,9 +7,9 @@ use cyc_flow::Cause;
 use cyc_words::{Code, Fault};
 use std::fmt;
 
-/// The message on a fault in the file `name`. The message states the position and the fault, the first line on the violated rule, and the
-/// source line with a marker. After the source line, the message shows the remaining lines on the rule and the advice. For an empty or
-/// locked variable, the message also names the position where it became empty or locked.
+/// The message on a fault in the file `name`. The message states the source position and the fault, the first line on the violated rule,
+/// and the source line with a marker. After the source line, the message shows the remaining lines on the rule and the advice. For an
+/// empty or locked variable, the message also names the source position where it became empty or locked.
 #[derive(Clone, Copy)]
 pub struct Message<'a> {
     pub name: &'a str,
@@ -17,7 +17,7 @@ pub struct Message<'a> {
     pub refusal: &'a Refusal,
 }
 
-/// Returns true if the message on a fault shows a source line. The fault of a missing `main` has none.
+/// Returns true if the message on a fault shows a source line. The fault that `main` is missing has no source line.
 fn has_line(fault: Fault) -> bool {
     fault.code != Code::BadMain || (fault.line, fault.column) != (1, 1)
 }
@@ -46,7 +46,7 @@ fn digit_of(byte: u8, base: u32) -> Option<u32> {
     if digit < base { Some(digit) } else { None }
 }
 
-/// Returns the bits of the number in a fault for too large numbers, if it fits 32 bits and no minus precedes it.
+/// For the fault of a number that is too large, returns the number as 32 bits, if it fits them and no minus precedes it.
 fn bits_of(text: &[u8], fault: Fault) -> Option<u32> {
     let Fault { code, line, column } = fault;
     if code != Code::NumberTooLarge {
@@ -180,8 +180,7 @@ impl fmt::Display for Lines<'_> {
     }
 }
 
-/// Writes a fault on one line: the first line of the explanation of its rule, or else the words for its code with the name or token at the
-/// fault.
+/// Writes a fault on one line: the first line on the violated rule, or else the words for the fault's code with the name or token there.
 #[derive(Drop)]
 pub struct Summary<'a>(pub &'a Message<'a>);
 

@@ -38,7 +38,7 @@ fn character_length(text: &[u8]) -> usize {
     }
 }
 
-/// Returns the token at a source position, as far as messages show it. A character constant is shown by its quote only.
+/// Returns the token at a source position in the form in which messages show it. A character constant is shown by its quote only.
 pub(crate) fn token_at(text: &[u8], line: u32, column: u32) -> &[u8] {
     let name = name_at(text, line, column);
     if !name.is_empty() {
@@ -53,8 +53,8 @@ pub(crate) fn token_at(text: &[u8], line: u32, column: u32) -> &[u8] {
     after.get(..character_length(after)).unwrap_or(after)
 }
 
-/// Returns true if the token at a fault should be shown. An expression that cannot be assigned may consist of more tokens, and the end of
-/// a function is not its name.
+/// Returns true if the message should show the token at a fault. An expression that cannot be assigned may consist of more tokens, and
+/// the token at the end of a function is not its name.
 fn is_by_token(text: &[u8], fault: Fault, token: &[u8]) -> bool {
     match fault.code {
         Code::NotAPlace => {
@@ -65,12 +65,12 @@ fn is_by_token(text: &[u8], fault: Fault, token: &[u8]) -> bool {
         }
         Code::MissingReturn => false,
         Code::UnknownByte => true,
-        // The first token of a region's name is a backquote, which is not shown.
+        // The first token of a region's name is a backquote, which the message does not show.
         _ => token != b"`".as_slice(),
     }
 }
 
-/// Writes the words on a fault, with the name that they mention.
+/// Writes the words of the message on a fault, with the name that they mention.
 #[derive(Drop)]
 pub(crate) struct Naming<'a> {
     pub(crate) code: Code,
@@ -86,7 +86,7 @@ impl fmt::Display for Naming<'_> {
     }
 }
 
-/// Writes the words on a fault, with the token at the fault if the token shows the error.
+/// Writes the words of the message on a fault, with the token at the fault if the token shows the error.
 #[derive(Drop)]
 pub(crate) struct AtToken<'a> {
     pub(crate) text: &'a [u8],

@@ -1,4 +1,4 @@
-//! Computes the syntax tree of a text with a fault of names, types, regions or flow.
+//! Computes the syntax tree of a text that has a fault of names, types, regions or flow.
 ghost use Rattle.std.specs.Prelude.{◌≡◌, ◌⊎◌, IfOk, IfErr};
 ghost use Rattle.cyc_words.specs.Fault.{memory_fault};
 ghost use Rattle.cyc_front.specs.Front.{IsRefusedText};

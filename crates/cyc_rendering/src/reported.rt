@@ -1,4 +1,4 @@
-//! A fault with its explanations, except those that need an analysis of the violated rule.
+//! A fault of a text with its explanations, except those that need an analysis of the violated rule.
 use crate::empty_pointer::words_on_empty;
 use crate::flow_cause::name_at;
 use cyc_flow::Cause;
@@ -6,20 +6,20 @@ use cyc_syntax::{Declaration, Tree};
 use cyc_words::{Code, Fault, Span};
 use std::alloc::Global;
 
-/// A fault with the explanations that go beyond its code.
+/// A fault of a text, with the explanations that tell more than its code.
 #[derive(Drop)]
 pub struct Refusal {
     pub fault: Fault,
     /// The lines that explain the violated rule. A hint in the last line replaces the hint for the fault's code.
     pub words: Option<Vec<u8>>,
-    /// The source position that the lines mention, if they mention one.
+    /// The source position that the explaining lines mention, if they mention one.
     pub place: Option<Span>,
     /// The source position where the empty or locked variable became empty or locked.
     pub cause: Option<Cause>,
 }
 
 impl Refusal {
-    /// Returns a fault of names, types or regions, with the lines of its explanation and the source position that they mention.
+    /// Returns a fault of names, types or regions, with the lines of its explanation and the source position that these lines mention.
     pub fn explained(fault: Fault, words: Option<Vec<u8>>, place: Option<Span>) -> Refusal {
         Refusal {
             fault,
@@ -39,7 +39,7 @@ impl Refusal {
         }
     }
 
-    /// Returns a flow fault, with the lines that explain it, or with the cause of the variable's state.
+    /// Returns a fault of the flow rules, with the lines that explain it, or with how and where the variable became empty or locked.
     pub fn of_flow(fault: Fault, words: Option<Vec<u8>>, cause: Option<Cause>) -> Refusal {
         Refusal {
             fault,
@@ -50,7 +50,7 @@ impl Refusal {
     }
 }
 
-/// Returns the name of the function with a result whose end can be reached, if the fault is of this kind.
+/// If the fault is that the end of a function with a result can be reached, returns the name of this function.
 pub fn name_of_ended(alloc: Global, text: &[u8], tree: &Tree, fault: Fault) -> Option<Vec<u8>> {
     if fault.code != Code::MissingReturn {
         return None;
@@ -66,7 +66,7 @@ pub fn name_of_ended(alloc: Global, text: &[u8], tree: &Tree, fault: Fault) -> O
     None
 }
 
-/// Returns the advice on a pointer that never had a value, if a variable is empty or locked and no position is known where it became so.
+/// Returns the advice on a pointer that never had a value, if a variable is empty or locked for a reason without a known position.
 pub fn words_on_variable(
     alloc: Global,
     text: &[u8],

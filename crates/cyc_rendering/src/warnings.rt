@@ -4,7 +4,7 @@ use cyc_cli::{FileName, Shown, excerpt_at};
 use cyc_warnings::{Found, MOST_WARNINGS, text_of};
 use std::fmt;
 
-/// Writes the words of a warning about a text, with the word at the warning's source position.
+/// Writes the words of a warning about a text, with the word in the text at the warning's source position.
 #[derive(Drop)]
 pub struct WarningText<'a> {
     pub text: &'a [u8],

@@ -1,4 +1,4 @@
--- The declarations that the code finds in a program's tables agree with the view of the tables that the typing rules use.
+-- The declarations that the code finds in a program's tables of names agree with those that the typing rules find in lists of declarations.
 use Rattle.std.proofs.Common.{◌≡◌, ℕ, ◌≤◌, ◌<◌, List, [], ◌∷◌, ◌++◌, length, map, drop, get_or, Option, Some, option_map, unwrap_or, refl, sym, ap, ◌∙◌}
 use Rattle.std.specs.List.{slice_get}
 use Rattle.std.proofs.lemmas.List.{map-append, length-map, drop_all}
@@ -62,6 +62,6 @@ no_types : (ms : List Member) (n : ℕ) (vs : List LocalVariable) → parameter_
 no_types [] n vs = refl
 no_types (m ∷ ms) n vs = refl
 
--- if all parameter types have been declared, no parameter is left to declare
+-- if the parameters of a whole list of types have been declared as locals, no parameter is left to declare
 pub parameters_end : (ms : List Member) (ts : List TyCode) (i n : ℕ) (vs : List LocalVariable) → length ts ≤ i → parameter_locals ms (map view_ty (drop i ts)) n vs ≡ vs
 parameters_end ms ts i n vs le = ap (λ us. parameter_locals ms (map view_ty us) n vs) (drop_all i ts le) ∙ no_types ms n vs

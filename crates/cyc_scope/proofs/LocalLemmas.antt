@@ -1,4 +1,4 @@
--- The table of locals contains the newest local of each name, also after locals are declared and removed.
+-- The table of locals contains, for each name, the newest local with the name, also after locals are declared and removed.
 use Rattle.std.proofs.Common.{◌≡◌, ℕ, suc, ◌≤◌, ◌<◌, Bool, true, false, cond, nat_eq, ◌&&◌, ◌||◌, List, [], ◌∷◌, ◌++◌, length, map, reverse, Option, Some, None, option_map, refl, sym, ap, ◌∙◌, arith}
 use Rattle.std.specs.List.{slice_get}
 use Rattle.std.proofs.lemmas.List.{reverse-append, reverse-reverse, length-map, length-reverse}
@@ -29,7 +29,7 @@ newest_within (y ∷ ys) x i e = by_test (newest_within ys x i) (nat_eq y x) e
     by_test h true e = let here = same_Some (length ys) i e in omega (arith, here)
     by_test h false e = omega (arith, h e)
 
--- the index that the table stores for a name finds the newest local with the name; the bindings are listed newest first
+-- the index that the table of locals stores for a name finds the newest local with the name; the list of locals begins with the newest
 place_in : (rs : List Binding) (x i : ℕ) → newest_place (local_names (map view_binding rs)) x ≡ Some i → option_map view_binding (slice_get (reverse rs) i) ≡ newest (map view_binding rs) x
 place_in [] x i e = cc
 place_in (r ∷ rs) x i e = by_test (place_in rs x i) (nat_eq (view_binding r).name x) e
@@ -55,7 +55,7 @@ place_in (r ∷ rs) x i e = by_test (place_in rs x i) (nat_eq (view_binding r).n
 newest_found : (bs : List Binding) (x i : ℕ) → newest_place (local_names (locals_of bs)) x ≡ Some i → option_map view_binding (slice_get bs i) ≡ newest (locals_of bs) x
 newest_found bs x i e = ap (λ cs. option_map view_binding (slice_get cs i)) (sym (reverse-reverse bs)) ∙ place_in (reverse bs) x i e
 
--- the index that the table stores for a name finds the newest local with the name, as a borrowed binding
+-- the index that the table stores for a name finds the newest local with the name; the result is a reference to a table entry
 pub newest_lent : (bs : List Binding) (x i : ℕ) (r : Option (Bor Binding)) → newest_place (local_names (locals_of bs)) x ≡ Some i → IsItemAt bs i r
     → option_map (λ (b : Bor Binding). view_binding b.now) r ≡ newest (locals_of bs) x
 newest_lent bs x i r e h = seen_through view_binding r ∙ ap (option_map view_binding) (lent bs i r h) ∙ newest_found bs x i e
@@ -127,7 +127,7 @@ declared_lost r x (v ∷ vs) e = by_test (declared_lost r x vs) (nat_eq v.name x
 
 -- ---- removing a local
 
--- the number that identifies the name of the oldest local is a valid index of the table of locals
+-- the number that identifies the name of the oldest local in scope is a valid index of the table of locals
 pub local_in_range : (table : List (Option ℕ)) (bs old : List Binding) (b : Binding) → Finds table old → old ≡ bs ++ b ∷ [] → b.local.name < length table
 local_in_range table bs old b f e =
     get_or_within table b.local.name (length (local_names (locals_of bs)))

@@ -1,4 +1,4 @@
--- Lemmas about plain signatures: each region occurs only once in the parameters.
+-- Lemmas about plain signatures of functions: each region occurs only once in the types of the parameters.
 use Rattle.std.proofs.Common.{◌≡◌, ◌<◌, ◌≤◌, ◌+◌, ℕ, suc, true, nat_eq, List, [], ◌∷◌, ◌++◌, length, drop, get_or, map, Option, Some, None, IfSome, refl, sym, subst, arith}
 use Rattle.std.proofs.lemmas.Bool.{eqb-true}
 use Rattle.std.proofs.lemmas.List.{drop_more}
@@ -41,12 +41,12 @@ none_at_all (x ∷ xs) h = let none : suc (length xs) ≡ 0 = eqb-true (suc (len
 
 -- ---- loops
 
--- if the region at index i and the regions after it are variables with increasing numbers, so are all regions from index i on
+-- if the region at index i of a list and those after it are variables with increasing numbers, so are all regions from i on
 pub ascend_from : (a b c : ℕ) (rs : List Region) (i : ℕ) (d : Region) → i < length rs → Ascend a (get_or rs i d ∷ []) b → Ascend b (drop (i + 1) rs) c → Ascend a (drop i rs) c
 ascend_from a b c rs i d lt one rest =
     subst (λ xs. Ascend a xs c) (sym (drop_more rs i d lt)) (ascend_append a (get_or rs i d ∷ []) b (drop (i + 1) rs) c one rest)
 
--- if the regions of the type at index i and of the types after it are variables with increasing numbers, so is the whole list
+-- if the regions of the type at index i and of later types are variables with increasing numbers, so are all from i on
 pub types_from : (a b c : ℕ) (ts : List TyCode) (i : ℕ) (t : TyCode) → i < length ts → t ≡ get_or ts i t → Ascend a (regions_in (view_ty t)) b
     → Ascend b (all_regions (map view_ty (drop (i + 1) ts))) c → Ascend a (all_regions (map view_ty (drop i ts))) c
 types_from a b c ts i t lt is one rest =

@@ -1,4 +1,4 @@
--- The table of first entries stores, for each name, the index of the first declaration with the name in a list of declarations.
+-- For each name, the table stores the index of the first declaration with the name in a list of declarations.
 use Rattle.std.proofs.Common.{◌≡◌, ◌≢◌, ℕ, suc, ◌<◌, Bool, true, false, cond, nat_eq, List, [], ◌∷◌, ◌++◌, length, map, set, get_or, Option, Some, None, option_map, refl, sym, ap, ◌∙◌, arith}
 use Rattle.std.specs.List.{slice_get}
 use Rattle.std.proofs.lemmas.Bool.{eqb-true, eq-eqb}

@@ -1,4 +1,5 @@
--- contracts that other crates use: how the code's results relate to the typing rules, a name's meaning, and the state after leaving a scope
+-- contracts that other crates use: how the results of the code relate to the typing rules, the meanings of names, and the scope after a
+-- block is left
 pub mod Code
 pub mod Meanings
 pub mod Marks

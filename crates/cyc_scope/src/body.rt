@@ -1,4 +1,4 @@
-//! The scope of a function's body, and the tables that the checks of all functions share.
+//! The scope of a function's body, and the tables of names that are reused for the check of each function.
 ghost use Rattle.std.specs.Prelude.{◌≡◌, [], ◌∷◌, map, option_map, IfOk, OnOk, IfErr};
 ghost use Rattle.cyc_syntax.specs.inside.TreeView.{view_name, view_member};
 ghost use Rattle.cyc_types.specs.TypeView.{view_ty};
@@ -18,11 +18,11 @@ use cyc_syntax::{Ident, Member};
 use cyc_types::{Kind, NameSet, Region, RegionNames, Signature, Ty};
 use std::alloc::Global;
 
-/// The tables of a function's names. The tables have an entry for each name of the source text, so they are reused for the check
-/// of the next function.
+/// The tables of the names that a function declares. The tables have an entry for each name of the source text, so they are
+/// reused for the check of the next function.
 #[derive(Drop)]
 pub struct Tables {
-    /// The region names known at the start of a function's body, except the name of the function's own region.
+    /// The region names known at the start of a function's body, except the name of the region that the body itself opens.
     pub names: RegionNames,
     taken: NameSet,
     locals: Locals,
@@ -41,7 +41,7 @@ impl Tables {
     }
 }
 
-/// Declares the parameters of a function. The parameters are numbered from 0 and belong to the function's own region.
+/// Declares the parameters of a function as locals. The parameters are numbered from 0 and are stored in the function's own region.
 #[tactic(auto, using(crate::proofs::EntryLemmas::parameters_end))]
 fn declare_parameters(locals: &mut Locals, members: &[Member], types: &[Ty]) -> Result<(), Stop>
     requires { Descends 0 locals.old }
@@ -64,7 +64,7 @@ fn declare_parameters(locals: &mut Locals, members: &[Member], types: &[Ty]) -> 
     Ok(())
 }
 
-/// Returns the regions of a function's body: the function's own region opens while the regions of its effect are live.
+/// Returns the region context of a function's body: the function's own region opens while the regions of its effect are live.
 fn regions_of(alloc: Global, signature: &Signature) -> Result<Regions, Stop>
     ensures regions { IfOk result (λ o. o ≡ body_regions (view_signature signature.now)) }
     ensures memory { IfErr result (λ e. e ≡ Memory) }
@@ -85,8 +85,8 @@ fn shared(of_type: &Option<Ty>) -> Result<Option<Ty>, Stop>
 }
 
 impl<'a> Scope<'a> {
-    /// Returns the scope of a function's body, from its signature, name and parameters. The tables contain the region names that the
-    /// parameters declare.
+    /// Returns the scope of a function's body, from the function's signature, name and parameters. The tables contain the region
+    /// names that the parameters declare.
     pub fn of_body(
         alloc: Global,
         program: &'a Program,

@@ -15,14 +15,14 @@ pub(crate) enum Entity {
     Function { callee: Callee, routine: Routine },
 }
 
-/// A table entry for a declared function or global.
+/// A declared function or global, with its name, as the table of declarations stores it.
 #[derive(Drop)]
 pub(crate) struct Entry {
     pub(crate) name: usize,
     pub(crate) entity: Entity,
 }
 
-/// The declared functions and globals, in order. If a name is declared twice, the first declaration counts.
+/// The declared functions and globals, in order of declaration. If a name is declared twice, the first declaration counts.
 #[derive(Drop)]
 pub(crate) struct Declared {
     entries: Vec<Entry>,
@@ -70,7 +70,7 @@ impl Entry {
         }
     }
 
-    /// Returns true if the table entry is a function with a plain signature (each region of its parameters occurs only once).
+    /// Returns true if the declaration is that of a function with a plain signature (each region of its parameters occurs only once).
     fn is_plain(&self) -> bool
         ensures { IsTrue result → IsPlainRoutine (view_entity self.now.entity) }
     {

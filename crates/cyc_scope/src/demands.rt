@@ -1,4 +1,4 @@
-//! The requirements of the typing rules on a type as written in the source.
+//! Checks of the requirements that the typing rules put on a type as written in the source.
 ghost use Rattle.std.specs.Prelude.{◌≡◌, Bool, not, map, option_map};
 ghost use Rattle.cyc_words.specs.declared.fault.Code.TheVariants as codes;
 ghost use Rattle.cyc_syntax.specs.inside.TreeView.{place_of_span, view_name, view_base, view_pointer, view_type};
@@ -12,7 +12,7 @@ use cyc_syntax::{BaseType, Ident, Pointer, PointerKind, WrittenType};
 use cyc_types::{Region, RegionNames, StructNames};
 use cyc_words::{Code, Span};
 
-/// Returns true if a name is declared and denotes the given region.
+/// Returns true if a region name is declared and denotes the given region.
 pub fn is_name_of(names: &RegionNames, region: Region, name: Ident) -> bool
     ensures { result ≡ is_name_of names.now region (view_name name) }
 {
@@ -44,7 +44,7 @@ pub fn demand_other(settled: &mut Settled, names: &RegionNames, region: Region, 
     settled.demand(Code::RegionOrKeyMisused, name.span, is_other);
 }
 
-/// Checks the requirements on the region arguments of a struct.
+/// Checks the typing rules' requirements on the region arguments of a struct type.
 pub fn demand_names(
     settled: &mut Settled,
     names: &RegionNames,
@@ -59,7 +59,7 @@ pub fn demand_names(
     }
 }
 
-/// Returns true if a struct has no region arguments, or as many as region parameters.
+/// Returns true if a struct type is written with no region arguments, or with as many as the struct has region parameters.
 fn is_count(count: Option<usize>, regions: &[Ident]) -> bool
     ensures { result ≡ is_count count (map view_name regions.now) }
 {
@@ -88,8 +88,8 @@ pub fn demand_struct(
     demand_names(settled, names, own, regions);
 }
 
-/// Checks the requirements on a written type's base, which precedes its pointer signs (`*`, `@` or `?`); `span` is
-/// where the written type begins.
+/// Checks the requirements on the base of a type as written, which precedes its pointer signs (`*`, `@` or `?`).
+/// `span` is where the written type begins.
 fn demand_base(
     settled: &mut Settled,
     structs: &StructNames,
@@ -138,7 +138,7 @@ fn demand_marks(settled: &mut Settled, names: &RegionNames, own: Option<usize>, 
     }
 }
 
-/// Returns true if the shape of a written type is allowed: a struct only as the target of a thin pointer, and no pointer to a key.
+/// Returns true if the form of a type as written is allowed: a struct only as the target of a thin pointer, and no pointer to a key.
 fn is_shape(base: &BaseType, marks: &[Pointer]) -> bool
     ensures { result ≡ is_shape (view_base base.now) (map view_pointer marks.now) }
 {
@@ -152,8 +152,8 @@ fn is_shape(base: &BaseType, marks: &[Pointer]) -> bool
     }
 }
 
-/// Checks the requirements on a written type, from the known structs and region names. The type of a parameter of the function
-/// `own` may declare region names.
+/// Checks the requirements on a type as written, given the known structs and region names. The type of a parameter of the
+/// function `own` may declare region names.
 #[tactic(auto, using(cyc_types::proofs::RuleLaws::settled_append))]
 pub fn demand_type(
     settled: &mut Settled,
@@ -179,7 +179,7 @@ fn is_key(base: &BaseType) -> bool
     }
 }
 
-/// Checks the requirements on the written type of a field.
+/// Checks the typing rules' requirements on the type of a field as written.
 #[tactic(auto, using(cyc_types::proofs::RuleLaws::settled_append))]
 pub fn demand_field(
     settled: &mut Settled,
@@ -197,7 +197,7 @@ pub fn demand_field(
     );
 }
 
-/// Returns true if a written type is an int, a char or a pointer.
+/// Returns true if a type as written is an int, a char or a pointer.
 fn is_global_shape(base: &BaseType, marks: &[Pointer]) -> bool
     ensures { result ≡ is_global_shape (view_base base.now) (map view_pointer marks.now) }
 {
@@ -207,7 +207,7 @@ fn is_global_shape(base: &BaseType, marks: &[Pointer]) -> bool
     }
 }
 
-/// Checks the requirements on the written type of a global.
+/// Checks the typing rules' requirements on the type of a global as written.
 #[tactic(auto, using(cyc_types::proofs::RuleLaws::settled_append))]
 pub fn demand_global(
     settled: &mut Settled,

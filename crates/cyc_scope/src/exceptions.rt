@@ -18,7 +18,7 @@ pub(crate) struct Entry {
     pub(crate) has_int: bool,
 }
 
-/// The exceptions of the program in order. If a name is declared twice, the first declaration counts.
+/// The exceptions of the program in order of declaration. If a name is declared twice, the first declaration counts.
 #[derive(Drop)]
 pub(crate) struct Exceptions {
     entries: Vec<Entry>,

@@ -9,7 +9,7 @@ use cyc_types::{Region, Ty};
 use std::alloc::Global;
 use std::marker::Model;
 
-/// The kind of construct that declares a local.
+/// The kind of construct that declares a local: a declaration or parameter, a `region` declaration, or an array `for`.
 #[derive(Clone, Copy)]
 pub(crate) enum Sort {
     Ordinary,
@@ -26,7 +26,7 @@ pub(crate) struct Local {
     /// The index of the local in its function; for the loop counter of a `for`, its nesting level.
     pub(crate) number: usize,
     pub(crate) of_type: Ty,
-    /// The number that identifies the region of the block that declares the local.
+    /// The number that identifies the region in which the local is stored, that of the block that declares it.
     pub(crate) region: usize,
     pub(crate) sort: Sort,
 }
@@ -41,9 +41,9 @@ struct Binding {
 /// The locals in scope. Contracts see this table as a list of locals, newest first.
 #[derive(Drop)]
 pub(crate) struct Locals {
-    /// The bindings of the locals in scope, oldest first.
+    /// The table entries of the locals in scope, oldest first.
     bindings: Vec<Binding>,
-    /// For each name, the index of the newest local with the name.
+    /// For each name, the index of the newest local in scope with the name.
     newest: Vec<Option<usize>>,
 }
 
@@ -71,7 +71,7 @@ impl Local {
     ghost use Rattle.cyc_scope.specs.inside.Meanings.{view_meaning};
     ghost use Rattle.cyc_scope.specs.inside.Entries.{view_sort, view_local};
 
-    /// Returns the meaning of a name that denotes this local; `name.span` is the name's source position.
+    /// Returns the meaning of a name that denotes this local, at the name's source position `name.span`.
     fn meaning(&self, name: Ident) -> Meaning<'_>
         ensures { view_meaning result ≡ local_meaning (view_local self.now).sort (view_local self.now) (view_name name).place }
     {

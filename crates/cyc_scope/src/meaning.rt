@@ -1,4 +1,4 @@
-//! The meanings of names in a program.
+//! The meanings of names in a program, such as a variable or a function.
 
 use cyc_types::typed::{Callee, Lvalue};
 use cyc_types::{Region, Signature, Ty};
@@ -7,7 +7,7 @@ use cyc_types::{Region, Signature, Ty};
 #[derive(Clone, Copy)]
 pub enum Meaning<'a> {
     Unknown,
-    /// The name denotes a variable that may be assigned; `home` is the region that contains it.
+    /// The name denotes a variable that may be assigned; `home` is the region in which the variable is stored.
     Variable {
         target: Lvalue,
         of_type: &'a Ty,

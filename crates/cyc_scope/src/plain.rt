@@ -1,4 +1,4 @@
-//! Recognises plain signatures, whose calls have the fewest requirements.
+//! Recognises plain function signatures, for which a call must satisfy the fewest requirements.
 ghost use Rattle.std.specs.Prelude.{◌≡◌, [], ◌∷◌, suc, IsTrue, IfSome, map, option_map, List};
 ghost use Rattle.cyc_types.specs.declared.region.Region.{Region};
 ghost use Rattle.cyc_types.specs.Types.{substituted_ty};
@@ -8,7 +8,7 @@ ghost use Rattle.cyc_scope.specs.inside.Plain.{regions_in, all_regions, Ascend, 
 
 use cyc_types::{Region, Signature, Ty};
 
-/// Returns the region's number plus one, if the region is a variable with a number of at least `next`.
+/// Returns the region's number plus one, if the region is a variable with a number of at least `next`; otherwise returns `None`.
 fn following(next: usize, region: Region) -> Option<usize>
     ensures { IfSome result (λ n. Ascend next (region ∷ []) n) }
 {
@@ -29,7 +29,8 @@ fn following_all(next: usize, regions: &[Region]) -> Option<usize>
     Some(known)
 }
 
-/// Applies `following_all` to the regions of a type.
+/// Checks that the regions of a type are variables with increasing numbers, from `next` on. The function applies `following_all` to the
+/// regions of a type.
 fn following_type(next: usize, of_type: &Ty) -> Option<usize>
     ensures { IfSome result (λ n. Ascend next (regions_in (view_ty of_type.now)) n) }
 {
@@ -41,7 +42,8 @@ fn following_type(next: usize, of_type: &Ty) -> Option<usize>
     }
 }
 
-/// Applies `following_type` to several types in turn.
+/// Checks that the regions of several types, in turn, are variables with increasing numbers. The function applies `following_type` to each
+/// type.
 fn after_types(next: usize, types: &[Ty]) -> Option<usize>
     ensures { IfSome result (λ n. Ascend next (all_regions (map view_ty types.now)) n) }
 {
@@ -52,7 +54,7 @@ fn after_types(next: usize, types: &[Ty]) -> Option<usize>
     Some(known)
 }
 
-/// Returns true if each region is a variable with a number of at most `count`.
+/// Returns true if each region of a list is a variable with a number of at most `count`.
 fn are_variables(count: usize, regions: &[Region]) -> bool
     ensures { IsTrue result → AreVariables count regions.now }
 {
@@ -82,7 +84,7 @@ fn are_apart(signature: &Signature) -> bool
     }
 }
 
-/// Returns true if a signature is plain: each region of its parameters occurs only once, and it has no constraints.
+/// Returns true if a function signature is plain: each region of its parameters occurs only once, and it has no outlives constraints.
 pub(crate) fn is_plain(signature: &Signature) -> bool
     ensures { IsTrue result → IsPlain (view_signature signature.now) }
 {

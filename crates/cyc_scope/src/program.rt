@@ -10,7 +10,7 @@ use cyc_types::{Known, Signature, Ty};
 use std::alloc::Global;
 use std::marker::Model;
 
-/// A field of a struct. In the type of a field, the i-th region parameter is region variable i.
+/// A field of a struct. In the type of a field, region variable i stands for the struct's i-th region parameter.
 #[derive(Drop)]
 pub struct Field {
     pub name: usize,
@@ -56,7 +56,7 @@ impl Program {
     ghost use Rattle.cyc_scope.specs.inside.Entries.{view_field, view_fields};
     ghost use Rattle.cyc_scope.specs.inside.Plain.{IsPlainRoutine};
 
-    /// Returns a program with the given known names and no declarations yet.
+    /// Returns a program with the given built-in and struct names and no declarations yet.
     pub fn new(alloc: Global, known: Known) -> Program
         ensures { result ≡ record { known = known; fields = []; exceptions = []; declared = [] } }
     {
@@ -68,7 +68,7 @@ impl Program {
         }
     }
 
-    /// Returns the names that are known in all of the program's text.
+    /// Returns the names that are known everywhere in the program's text, such as those of structs.
     pub fn known(&self) -> &Known
         ensures { result.now ≡ self.now.known }
     {

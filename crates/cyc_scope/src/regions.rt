@@ -1,4 +1,4 @@
-//! The live regions and the outlives relation. Regions that are live in a function's whole body are recognised by their numbers.
+//! The live regions and the outlives relation of a scope. Regions that are live in a function's whole body are recognised by their numbers.
 ghost use Rattle.std.specs.Prelude.{◌∷◌};
 ghost use Rattle.cyc_types.specs.declared.region.Region.TheVariants.{Heap, Unique};
 ghost use Rattle.cyc_scope.specs.inside.Throughout.{AreThroughout};
@@ -20,11 +20,11 @@ fn count_of(effect: &[Region]) -> usize
     effect.len()
 }
 
-/// The outlives relation at one point of a function's body. Contracts see only the outlives relation, not its tables.
+/// The outlives relation between regions at one point of a function's body. Contracts see only the outlives relation, not its tables.
 #[derive(Drop)]
 pub(crate) struct Regions {
     outlives: Outlives,
-    /// The region variables from number 1 to this number are live in the whole body, as the heap is.
+    /// The region variables from number 1 to `throughout` are live in the whole body, as the heap is.
     throughout: usize,
 }
 
@@ -47,7 +47,7 @@ impl Regions {
     ghost use Rattle.cyc_types.specs.Types.{is_region_among};
     ghost use Rattle.cyc_scope.specs.declared.stop.Stop.TheVariants.{Memory};
 
-    /// Returns the region context without open scopes; the heap, the unique region and the regions of the effect are live.
+    /// Returns the region context before any scope opens; the heap, the unique region and the regions of the effect are live.
     pub(crate) fn new(
         alloc: Global,
         written: &[(Region, Region)],

@@ -4,7 +4,7 @@ use crate::plain::is_plain;
 use cyc_types::Signature;
 use std::marker::Model;
 
-/// A function signature. Contracts see only the signature, not its memory layout.
+/// A function signature, as tables store it. Contracts see only the signature, not its memory layout.
 #[derive(Drop)]
 pub(crate) struct Routine {
     signature: Signature,

@@ -12,7 +12,7 @@ use cyc_types::{Kind, NameSet, Region, RegionNames, StructNames, Ty};
 use std::alloc::Global;
 use std::marker::Model;
 
-/// The size of a scope at some point. The function `leave` removes the names that came into scope since that point.
+/// The size of a scope at some point of a function's body. The function `leave` removes the names that came into scope since that point.
 #[derive(Clone, Copy)]
 pub struct Mark {
     /// How many locals, region names and open scopes the scope has.
@@ -22,15 +22,15 @@ pub struct Mark {
     /// The number that identifies the region of the innermost enclosing block.
     pub region: usize,
     pub in_loop: bool,
-    /// The number of enclosing array `for`s.
+    /// The number of array initialisers with `for` that enclose the current expression.
     pub counters: usize,
 }
 
-/// The context of an expression or a statement in a function's body. The context consists of the declarations of the program, the meaning
-/// of names, the live regions, and the numbers of the next local and region.
+/// The context in which the checker checks an expression or statement of a function's body. The context consists of the declarations of
+/// the program, the meaning of names, the live regions, and the numbers of the next local and region.
 ///
-/// Regions are numbered from the outermost block to the innermost, so the newest local with a name decides if the innermost block
-/// declares that name.
+/// Regions are numbered from the outermost block to the innermost. So the region number of the newest local with a name decides
+/// if the innermost block declares that name.
 #[derive(Drop)]
 pub struct Scope<'a> {
     pub(crate) alloc: Global,
@@ -47,7 +47,7 @@ pub struct Scope<'a> {
     /// The number that identifies the region of the innermost enclosing block.
     pub(crate) region: usize,
     pub(crate) in_loop: bool,
-    /// The number of enclosing array `for`s.
+    /// The number of array initialisers with `for` that enclose the current expression.
     pub(crate) counters: usize,
 }
 
@@ -100,7 +100,7 @@ impl<'a> Scope<'a> {
     ghost use Rattle.cyc_scope.specs.inside.Marks.{IsInOrder, mark_of, left_to, with_next_opened};
     ghost use Rattle.cyc_scope.specs.inside.Plain.{IsPlainRoutine};
 
-    /// Returns the allocator that all allocations of the type check use.
+    /// Returns the allocator from which the type check takes all its memory.
     pub fn alloc(&self) -> Global {
         self.alloc
     }
@@ -165,7 +165,7 @@ impl<'a> Scope<'a> {
         self.in_loop
     }
 
-    /// Returns the number of enclosing array `for`s, which is the level of the next `for`.
+    /// Returns the number of enclosing array initialisers with `for`, which is the nesting level of the next one.
     pub fn counters(&self) -> usize
         ensures { result ≡ self.now.counters }
     {
@@ -283,7 +283,7 @@ impl<'a> Scope<'a> {
         self.declare(Sort::OfRegion, name, of_type)
     }
 
-    /// Declares the loop counter of an array `for` and enters the element expression.
+    /// Declares the loop counter of an array initialiser with `for`, and enters the expression for the elements.
     pub fn declare_counter(&mut self, name: Ident) -> Result<(), Stop>
         ensures declared { OnOk result (self.new ≡ with_counter (view_name name) self.old) }
         ensures memory { IfErr result (λ e. e ≡ Memory) }
@@ -301,7 +301,7 @@ impl<'a> Scope<'a> {
         Ok(())
     }
 
-    /// Gives the given name to the region that will be declared next.
+    /// Gives the name `name` to the region that will be declared next.
     pub fn name_region(&mut self, name: Ident) -> Result<(), Stop>
         ensures named { OnOk result (self.new ≡ with_name (view_name name) self.old) }
         ensures memory { IfErr result (λ e. e ≡ Memory) }
@@ -368,8 +368,8 @@ impl<'a> Scope<'a> {
         }
     }
 
-    /// Removes the names that came into scope since the mark (a record of the scope's size) was taken. Numbers of locals and regions,
-    /// and names of regions, that were used stay used after the names leave the scope.
+    /// Removes the names that came into scope since the mark (a record of the scope's size) was taken. The numbers of locals and
+    /// regions, and the region names, that were used for removed names are not used again.
     pub fn leave(&mut self, mark: Mark)
         requires { IsInOrder (left_to mark self.old) }
         ensures { self.new ≡ left_to mark self.old }

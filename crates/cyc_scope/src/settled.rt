@@ -1,5 +1,5 @@
-//! Accumulates the typing rules' requirements of a construct in order. Of several violated requirements, the one with the lowest code is
-//! reported, and the first if several have that code.
+//! Accumulates the faults of the typing rules' requirements on a construct, checked in order. Of several violated requirements, the one
+//! with the lowest fault code is reported, and the first if several have that code.
 ghost use Rattle.std.specs.Prelude.{◌≡◌, None};
 ghost use Rattle.cyc_syntax.specs.inside.TreeView.{place_of_span};
 ghost use Rattle.cyc_types.specs.Rules.{demand, noted};
@@ -8,7 +8,7 @@ ghost use Rattle.cyc_scope.specs.inside.Code.{Ends};
 use crate::stop::Stop;
 use cyc_words::{Code, Fault, Span};
 
-/// The fault of the requirements that were checked so far.
+/// The fault, if any, of the requirements that were checked so far.
 #[derive(Clone, Copy)]
 pub struct Settled {
     /// The fault of the requirements that were checked so far, or `None` if all were satisfied.
@@ -16,15 +16,15 @@ pub struct Settled {
 }
 
 impl Settled {
-    /// Returns the state before any requirement is checked.
+    /// Returns the record of faults before any requirement is checked.
     pub fn new() -> Settled
         ensures { result.known ≡ None }
     {
         Settled { known: None }
     }
 
-    /// Checks one more requirement. If the requirement is violated, its fault is recorded, unless a fault with an equal or
-    /// a lower code is already recorded.
+    /// Checks one more requirement of the typing rules. If the requirement is violated, its fault is recorded, unless a
+    /// fault with an equal or a lower code is already recorded.
     pub fn demand(&mut self, code: Code, span: Span, kept: bool)
         ensures { self.new.known ≡ noted self.old.known (demand code (place_of_span span) kept) }
     {

@@ -1,10 +1,10 @@
-//! Tables of indices; each table is indexed by the numbers that identify names.
+//! Tables that store indices of declarations; each table is indexed by the numbers that identify names.
 ghost use Rattle.std.specs.Prelude.{◌≡◌, ℕ, ◌<◌, length, get_or, None, OnOk, IfErr};
 ghost use Rattle.cyc_scope.specs.declared.stop.Stop.TheVariants.{Memory};
 
 use crate::stop::Stop;
 
-/// Grows the table until it has an entry for `name`.
+/// Grows the table until it has an entry for the name with number `name`.
 pub(crate) fn grow(table: &mut Vec<Option<usize>>, name: usize) -> Result<(), Stop>
     ensures same { (x : ℕ) → get_or table.new.items x None ≡ get_or table.old.items x None }
     ensures memory { IfErr result (λ e. e ≡ Memory) }

@@ -1,4 +1,5 @@
--- The labelled machine satisfies the laws of a transition system: its output only grows, and a run that has ended never changes.
+-- The labelled machine (which executes MIPS lines) satisfies the laws of a transition system: its output only grows, and a run
+-- that has ended never changes.
 use Rattle.std.proofs.Common.{◌≡◌, ℕ, ◌+◌, Bool, true, false, [], ◌∷◌, Option, Some, None, slice_get, refl, sym, ap, subst, ◌∙◌, inl, inr}
 use Rattle.cyc_words.specs.Ending.{Ending}
 use Rattle.cyc_words.specs.Seen.{showing, ComesTo}

@@ -1,4 +1,4 @@
--- the proof that the selected code is well-formed, fits the text range, and stands at the counted lines
+-- the proof that the selected code is well-formed, fits the text range, and begins for each instruction at the line number counted for it
 pub mod Whole
 pub mod Inside
 pub mod Formed

@@ -56,7 +56,7 @@ pub(crate) fn ask_count(frame: &Frame, request: Request) -> usize
 }
 
 impl Emitter {
-    /// Emits the MIPS lines that load the first operand of a request, if it has one.
+    /// Emits the MIPS lines that load the first operand of a request to the store, if the request has one.
     fn first_argument(&mut self, frame: &Frame, request: Request) -> Result<(), AllocError>
         requires { IsArgumentFound frame.now (first_operand request) }
         ensures { AddsLines result self.old self.new (ordinary (argument_code frame.now ARGUMENT (first_operand request))) }
@@ -71,7 +71,7 @@ impl Emitter {
         }
     }
 
-    /// Emits the MIPS lines that load the second operand of a request, if it has one.
+    /// Emits the MIPS lines that load the second operand of a request to the store, if the request has one.
     fn second_argument(&mut self, frame: &Frame, request: Request) -> Result<(), AllocError>
         requires { IsArgumentFound frame.now (second_operand request) }
         ensures { AddsLines result self.old self.new (ordinary (argument_code frame.now SECOND_ARGUMENT (second_operand request))) }

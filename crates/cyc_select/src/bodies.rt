@@ -18,7 +18,7 @@ use cyc_plain::Instruction;
 use std::alloc::AllocError;
 
 impl Emitter {
-    /// Emits the MIPS lines of an instruction's body; the first line has the line number `here`.
+    /// Emits the MIPS lines of a plain instruction, without those executed after a call returns; the first line has the line number `here`.
     fn body(
         &mut self,
         tables: &Tables,
@@ -156,7 +156,7 @@ impl Emitter {
         }
     }
 
-    /// Emits all MIPS lines of the instruction at `index`: its body, and those that follow a call.
+    /// Emits all MIPS lines of the plain instruction at `index`, including those executed after a call returns.
     pub(crate) fn instruction(
         &mut self,
         tables: &Tables,

@@ -307,7 +307,8 @@ impl Emitter {
         Ok(())
     }
 
-    /// Emits the MIPS lines at a function's entry: they save registers, then load the parameters that belong in these registers.
+    /// Emits the MIPS lines at a function's entry: they save registers, then load into registers the parameters that arrive in
+    /// memory but have a callee-saved register.
     pub(crate) fn saving(&mut self, frame: &Frame) -> Result<(), AllocError>
         requires return_address { frame.now.return_address ≤ MOST_FRAME_WORDS }
         requires few { frame.now.saved ≤ MOST_SAVED }

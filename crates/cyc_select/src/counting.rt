@@ -419,8 +419,8 @@ fn function_lines(
     )
 }
 
-/// The line numbers in the labelled code at which functions and their instructions begin, and the
-/// number of the line after the last function.
+/// The line numbers in the labelled code at which functions and their instructions begin, and the number of the line after the last
+/// function.
 #[derive(Drop)]
 pub(crate) struct Numbered {
     pub(crate) functions: Vec<FunctionLines>,

@@ -78,7 +78,7 @@ impl Emitter {
         ])
     }
 
-    /// Emits the MIPS lines that open a handler, whose first line has this label.
+    /// Emits the MIPS lines that open an exception handler; the label is the number of the handler's first line.
     pub(crate) fn open_handler(
         &mut self,
         frame: &Frame,

@@ -77,7 +77,7 @@ fn operands_first(
     )
 }
 
-/// Returns the instruction of an operation that computes its word in one line, otherwise `None`.
+/// Returns the machine instruction of an operation that takes only one machine instruction, otherwise `None`.
 fn operation_first(operation: Operation, target: u8, left: u8, right: u8) -> Option<Instr>
     ensures { result ≡ operation_first operation target left right }
 {
@@ -186,7 +186,7 @@ fn first_line(frame: &Frame, instruction: Instruction) -> Option<Instr>
     }
 }
 
-/// Returns the register of the slot that an instruction computes, if the slot has one.
+/// Returns the register of the slot to which an instruction writes its result, if the slot has one.
 fn given_register(frame: &Frame, instruction: Instruction) -> Option<u8>
     ensures { result ≡ given_register frame.now instruction }
 {
@@ -198,7 +198,8 @@ fn given_register(frame: &Frame, instruction: Instruction) -> Option<u8>
     }
 }
 
-/// Returns the register of the slot that an instruction computes, if the frame permits this instruction's first line to fill delay slots.
+/// Returns the register of the slot to which an instruction writes its result, if the frame permits this instruction's first line to fill
+/// delay slots.
 fn own_register(frame: &Frame, target: usize, instruction: Instruction) -> Option<u8>
     ensures { result ≡ own_register frame.now target instruction }
 {
@@ -209,7 +210,7 @@ fn own_register(frame: &Frame, target: usize, instruction: Instruction) -> Optio
     }
 }
 
-/// Returns the register that an instruction computes, if it reads registers only.
+/// Returns the register that an instruction writes, if it reads registers only.
 fn target_of(instruction: Instr) -> Option<u8>
     ensures { result ≡ target_of instruction }
 {

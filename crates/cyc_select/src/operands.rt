@@ -61,7 +61,8 @@ pub(crate) fn made_in(frame: &Frame, slot: usize) -> u8
     }
 }
 
-/// Returns the home in which a parameter with this home arrives: memory if the home's register is callee-saved.
+/// Returns the home (register or memory) in which callers pass a parameter whose own home is `home`: memory if
+/// the home's register is callee-saved.
 fn coming_home(home: Home) -> Home
     ensures { result ≡ coming_home home }
 {
@@ -80,7 +81,8 @@ fn home_coming(callee: &Frame, slot: usize) -> Home
     coming_home(home(callee, slot))
 }
 
-/// Returns the home of a parameter that arrives in memory and is loaded into a register at the function's entry.
+/// Returns the home with a parameter's register if the parameter arrives in memory and is loaded into this
+/// register at the function's entry.
 fn arriving_home(home: Home) -> Home
     ensures { result ≡ arriving_home home }
 {
@@ -417,8 +419,8 @@ impl Emitter {
         }
     }
 
-    /// Emits the MIPS lines that write a register to a slot. If registers are reloaded afterwards, a slot whose home is a register
-    /// and memory is written in memory only.
+    /// Emits the MIPS lines that write a register to a slot. If registers are reloaded after this write (`again`), a slot whose
+    /// home is a register and memory is written in memory only.
     fn bring(
         &mut self,
         frame: &Frame,

@@ -164,7 +164,7 @@ fn branch_on(outcome: Outcome) -> BranchOp
     }
 }
 
-/// Returns the condition of a branch, which holds for the registers after the lines of its test.
+/// Returns the condition on registers under which a branch is taken, once the lines that compute its test have been executed.
 pub(crate) fn condition_of(frame: &Frame, test: Test) -> Condition
     ensures { result ≡ condition_of frame.now test }
 {

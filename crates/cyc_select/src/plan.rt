@@ -41,7 +41,7 @@ pub(crate) enum Operation {
     },
 }
 
-/// The final step of a plan, which turns the computed word into the result.
+/// The final step of a plan (a machine operation with its operands), which turns the computed word into the result.
 #[derive(Clone, Copy)]
 pub(crate) enum Outcome {
     AsItIs,
@@ -92,7 +92,7 @@ fn arithmetic_plan(op: ArithmeticOp, left: Operand, right: Operand, outcome: Out
     }
 }
 
-/// Returns the plan that adds an offset to an address.
+/// Returns the plan (machine operation and operands) that adds an offset to an address.
 pub(crate) fn far_plan(address: Operand, offset: u32) -> Plan
     ensures { result ≡ far_plan address offset }
 {
@@ -111,7 +111,8 @@ fn immediate_plan(op: ImmediateOp, left: Operand, half: u16, outcome: Outcome) -
     }
 }
 
-/// Returns the plan whose instruction has the given immediate, or the plan `other` if no immediate is given.
+/// Returns the plan (machine operation and operands) whose instruction has the given immediate, or the plan
+/// `other` if no immediate is given.
 fn immediate_or(
     half: Option<u16>,
     op: ImmediateOp,
@@ -158,7 +159,7 @@ fn multiply_divide_plan(
     }
 }
 
-/// Returns the plan of a product: a shift if one factor is a power of two, otherwise a multiplication.
+/// Returns the plan (machine operation and operands) of a product: a shift if one factor is a power of two, otherwise a multiplication.
 fn product_plan(left: Operand, right: Operand) -> Plan
     ensures { result ≡ product_plan left right }
 {
@@ -189,7 +190,7 @@ fn mirrored(comparison: Comparison) -> Comparison
     }
 }
 
-/// Returns the plan that tests that a word is 0, or that it is not 0 if `holds` is false.
+/// Returns the plan (machine operation and operands) that tests that a word is 0, or that it is not 0 if `holds` is false.
 fn zero_plan(operand: Operand, holds: bool) -> Plan
     ensures { result ≡ zero_plan operand holds }
 {
@@ -205,7 +206,8 @@ fn zero_plan(operand: Operand, holds: bool) -> Plan
     }
 }
 
-/// Returns the plan that tests two words for equality, or for difference if `holds` is false, by testing their difference for 0.
+/// Returns the plan (machine operation and operands) that tests two words for equality, or for difference if `holds` is false,
+/// by testing their difference for 0.
 fn equal_plan(left: Operand, right: Operand, holds: bool) -> Plan
     ensures { result ≡ equal_plan left right holds }
 {
@@ -227,7 +229,7 @@ fn equal_plan(left: Operand, right: Operand, holds: bool) -> Plan
     )
 }
 
-/// Returns the plan that tests that the left word is less than the right one, or that it is not less.
+/// Returns the plan (machine operation and operands) that tests if the left word is less than the right one, or if it is not less.
 fn less_plan(left: Operand, right: Operand, outcome: Outcome) -> Plan
     ensures { result ≡ less_plan left right outcome }
 {
@@ -254,7 +256,8 @@ fn less_unsigned_plan(left: Operand, right: Operand, outcome: Outcome) -> Plan
     )
 }
 
-/// Returns the plan that tests that the left word is at most the right one: it is less than the right word's successor.
+/// Returns the plan (machine operation and operands) that tests that the left word is at most the right one: it is less
+/// than the right word's successor.
 fn at_most_plan(left: Operand, right: Operand, holds: bool) -> Plan
     ensures { result ≡ at_most_plan left right holds }
 {
@@ -273,7 +276,8 @@ fn at_most_plan(left: Operand, right: Operand, holds: bool) -> Plan
     )
 }
 
-/// Returns the plan of a comparison whose operands were exchanged, if possible, so that the left one is no constant.
+/// Returns the plan (machine operation and operands) of a comparison whose operands were exchanged, if possible, so
+/// that the left one is no constant.
 fn compared_plan(comparison: Comparison, left: Operand, right: Operand) -> Plan
     ensures { result ≡ compared_plan comparison left right }
 {
@@ -301,7 +305,7 @@ fn is_mirrored(comparison: Comparison, left: Operand) -> bool
     }
 }
 
-/// Returns the plan of a comparison's truth value, 1 or 0.
+/// Returns the plan (machine operation and operands) of a comparison's truth value, 1 or 0.
 pub(crate) fn comparison_plan(comparison: Comparison, left: Operand, right: Operand) -> Plan
     ensures { result ≡ comparison_plan comparison left right }
 {
@@ -353,7 +357,7 @@ fn difference_plan(left: Operand, right: Operand) -> Plan
     )
 }
 
-/// Returns the plan of a bitwise operation, on two registers or on a register and an immediate.
+/// Returns the plan (machine operation and operands) of a bitwise operation, on two registers or on a register and an immediate.
 fn bits_plan(op: ArithmeticOp, number_op: ImmediateOp, left: Operand, right: Operand) -> Plan
     ensures { result ≡ bits_plan op number_op left right }
 {
@@ -367,8 +371,8 @@ fn bits_plan(op: ArithmeticOp, number_op: ImmediateOp, left: Operand, right: Ope
     )
 }
 
-/// Returns the plan of an operator whose operands were exchanged, if possible, so that the left one is no constant. (For a division, the
-/// machine must be able to divide every word by the divisor.)
+/// Returns the plan (machine operation and operands) of an operator whose operands were exchanged, if possible, so that the left one is
+/// no constant. (For a division, the machine must be able to divide every word by the divisor.)
 fn operator_plan(operator: BinaryOperator, left: Operand, right: Operand) -> Plan
     ensures { result ≡ operator_plan operator left right }
 {
@@ -407,7 +411,7 @@ fn is_swapped(operator: BinaryOperator, left: Operand) -> bool
     }
 }
 
-/// Returns the plan of an operator on two operands.
+/// Returns the plan (machine operation and operands) of an operator on two operands.
 pub(crate) fn binary_plan(operator: BinaryOperator, left: Operand, right: Operand) -> Plan
     ensures { result ≡ binary_plan operator left right }
 {

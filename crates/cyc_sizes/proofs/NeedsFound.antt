@@ -1,6 +1,5 @@
--- This file is about computing the number of words that a frame needs. The need (number of words) of a list's first elements, combined
--- with that of the remaining elements, is the need of the list. The fact about the needs of lists is also proved for typed tree nodes
--- that have lists.
+-- This file is about computing the number of machine words that a frame needs. The number of words that a list's first elements need,
+-- combined with that of the remaining elements, is the number for the list. The same fact is proved for typed tree nodes that have lists.
 use Rattle.std.proofs.Common.{◌≡◌, ℕ, ◌+◌, ◌<◌, max, List, [], ◌∷◌, length, get_or, drop, map, Option, sym, ap, ◌∙◌, arith}
 use Rattle.std.proofs.lemmas.List.{drop_more}
 use Rattle.std.specs.declared.vec.Vec.{Vec}
@@ -47,8 +46,8 @@ OperationsLeft os t first i need left = max need (operations_need (operations_of
 abbrev pub ItemsLeft : List ItemCode → (i need : ℕ) → Type 0
 ItemsLeft js i need = max need (items_need (items_of (drop i js))) ≡ items_need (items_of js)
 
--- Says that the frame words reserved for the declarations and statements so far, plus those for the remaining ones, are those of the
--- complete block.
+-- Says that the frame words reserved for the declarations and statements counted so far, plus those for the remaining ones, are
+-- those reserved for the complete block.
 abbrev pub ItemsKeptLeft : List ItemCode → (i words : ℕ) → Type 0
 ItemsKeptLeft js i words = words + kept_by_items (items_of (drop i js)) ≡ kept_by_items (items_of js)
 
@@ -60,7 +59,8 @@ ClausesLeft cs i need = max need (clauses_need (clauses_of (drop i cs) NoClauses
 abbrev pub ClausesKeptLeft : List Clause → (i words : ℕ) → Type 0
 ClausesKeptLeft cs i words = words + kept_by_clauses (clauses_of (drop i cs) NoClauses) ≡ kept_by_clauses (clauses_of cs NoClauses)
 
--- The frame words that catch clauses with a `default` clause need are the maximum of those of this clause and those of the other clauses.
+-- The frame words that catch clauses with a `default` clause need are the maximum of those that the `default` clause needs and those that
+-- the other clauses need.
 pub clauses_need_with : (cs : List Clause) (default : Clauses) → clauses_need (clauses_of cs default) ≡ max (clauses_need (clauses_of cs NoClauses)) (clauses_need default)
 clauses_need_with [] default = omega arith
 clauses_need_with (c ∷ cs) default = omega (arith, clauses_need_with cs default)

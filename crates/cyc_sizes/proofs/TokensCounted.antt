@@ -30,8 +30,8 @@ use Rattle.cyc_types.proofs.TypedTreeViewLemmas.{view_typed_call, view_typed_bin
 
 -- ---- the count so far plus the remaining elements
 
--- Says that the tokens counted so far plus the tokens of the remaining operands, with a comma
--- before each operand, are the tokens of all operands.
+-- Says that the tokens counted so far plus the tokens of the remaining operands, with a comma before each operand, are the tokens of all
+-- operands.
 abbrev pub ArgumentsLeft : List ConvertedCode → (i weight : ℕ) → Type 0
 ArgumentsLeft cs i weight = weight + more_arguments_weight (arguments_of (drop i cs)) ≡ more_arguments_weight (arguments_of cs)
 
@@ -52,12 +52,12 @@ FunctionsLeft hs i weight = weight + sum_of function_weight (map view_function (
 
 -- ---- commas
 
--- The first operand of a list has no comma before it.
+-- In the count of tokens, no comma is counted before the first operand of a list.
 pub first_without_comma : (cs : Arguments) → arguments_weight cs ≡ more_arguments_weight cs - 1
 first_without_comma NoArguments = omega arith
 first_without_comma (MoreArguments c cs) = omega arith
 
--- The tokens counted so far plus those of an operand with its comma exceed the tokens of the list by at most one.
+-- The tokens counted so far plus those of the next operand with its comma exceed the tokens of the whole list by at most one.
 module _ (cs : List ConvertedCode) (i weight : ℕ) (c : ConvertedCode) (inside : i < length cs) (at : c ≡ get_or cs i c) where
   pub argument_left : ArgumentsLeft cs i weight → weight + (1 + expression_weight (view_expression c.value)) ≤ 1 + arguments_weight (arguments_of cs)
   argument_left left =
@@ -76,7 +76,7 @@ parameters_weigh (t ∷ ts) = omega (arith, more_parameters ts)
 
 -- ---- nodes that contain lists
 
--- The tokens of catch clauses with a `default` clause are those of this clause plus those of the other clauses.
+-- The tokens of catch clauses with a `default` clause are those of the `default` clause plus those of the other clauses.
 default_weighs : (cs : List Clause) (default : Clauses) → clauses_weight (clauses_of cs default) ≡ clauses_weight (clauses_of cs NoClauses) + clauses_weight default
 default_weighs [] default = omega arith
 default_weighs (c ∷ cs) default = omega (arith, default_weighs cs default)

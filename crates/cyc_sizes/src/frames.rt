@@ -1,4 +1,4 @@
-//! This file counts the number of words that the frame of a function may need, on its typed tree only.
+//! This file counts the number of machine words that the stack frame of a function may need, on its typed tree only.
 ghost use Rattle.std.specs.Prelude.{◌≡◌, ◌+◌, ◌≤◌, map, option_map};
 ghost use Rattle.cyc_types.specs.Types.{words_of};
 ghost use Rattle.cyc_types.specs.TypedTrees.{NoClauses, type_of_place, type_of};
@@ -24,13 +24,13 @@ const PLACE_WORDS: usize = 3;
 /// The number of frame words that an array `for` occupies while its element is evaluated.
 const ARRAY_WORDS: usize = 4;
 
-/// The number of words that are reserved in each frame.
+/// The number of machine words that are reserved in each stack frame, whatever the function's code contains.
 const KEPT_WORDS: usize = 24;
 
-/// The number of frame words that are reserved for each `try`.
+/// The number of machine words in the stack frame that are reserved for each `try` statement.
 const HANDLER_WORDS: usize = 6;
 
-/// Returns the number of words of a value of the given representation kind (int, char, pointer, ..).
+/// Returns the number of machine words of a value of the given representation kind (int, char, pointer, ..).
 pub fn words_of_kind(kind: Kind) -> usize
     ensures words { result ≡ words_of_kind kind }
     ensures few { result ≤ 3 }
@@ -41,14 +41,14 @@ pub fn words_of_kind(kind: Kind) -> usize
     }
 }
 
-/// Returns the number of words of a value of a type.
+/// Returns the number of machine words of a value of a type.
 pub fn words_of(of_type: &Ty) -> usize
     ensures { result ≡ words_of (view_ty of_type.now) }
 {
     of_type.words() as usize
 }
 
-/// Returns the number of words of an expression's value, which may be none.
+/// Returns the number of machine words of an expression's value; 0 if the expression has no value.
 fn result_words(of_type: &ValueType) -> usize
     ensures { result ≡ result_words (view_value_type of_type.now) }
 {
@@ -59,7 +59,7 @@ fn result_words(of_type: &ValueType) -> usize
     }
 }
 
-/// Returns the number of words of the cell to which a pointer points.
+/// Returns the number of machine words of the memory cell to which a pointer points.
 pub fn words_at(place: &Dereference) -> usize
     ensures { result ≡ words_of (type_of_place (view_dereference place.now)) }
 {
@@ -70,7 +70,7 @@ pub fn words_at(place: &Dereference) -> usize
     }
 }
 
-/// Returns the number of words of an operand, which always has a value.
+/// Returns the number of machine words of the value of an operand, which always has a value.
 fn operand_words(value: &Expr) -> usize
     ensures { result ≡ operand_words (type_of (view_expression value.now)) }
 {
@@ -106,14 +106,14 @@ fn typed_words(of_type: &ValueType) -> usize
     }
 }
 
-/// Returns the number of words of an operand before or after its conversion, whichever is larger.
+/// Returns the number of machine words of an operand's value before or after its conversion, whichever is larger.
 fn converted_words(value: &Converted) -> usize
     ensures { result ≡ converted_words (view_converted value.now) }
 {
     words_of_kind(value.from).max(words_of_kind(value.to))
 }
 
-/// Returns the number of words of the region handle of `rnew`; `unique_region` takes a word too.
+/// Returns the number of machine words of the region handle of `rnew`; `unique_region` takes a word too.
 fn handle_words(placement: &Placement) -> usize
     ensures { result ≡ handle_words (view_placement placement.now) }
 {
@@ -191,7 +191,7 @@ fn expression_need(value: &Expr) -> usize
     }
 }
 
-/// Returns the frame words that a memory access through a pointer needs, whose value has `own` words.
+/// Returns the frame words that a memory access through a pointer needs, if the accessed value has `own` words.
 #[cycle(need)]
 fn dereference_need(place: &Dereference, own: usize) -> usize
     requires { dereference_need (view_dereference place.now) own ≤ most_frame_count }
@@ -223,7 +223,8 @@ fn handle_need(placement: &Placement) -> usize
     }
 }
 
-/// Returns the frame words that an initial value needs after a region handle of `handle` words; the pointer to the object has `own` words.
+/// Returns the number of frame words that the evaluation of an initial value needs, after a region handle of `handle` words; the pointer
+/// to the new object has `own` words.
 #[cycle(need)]
 fn initial_value_need(initial: &Initial, handle: usize, own: usize) -> usize
     requires { initial_value_need (view_initial initial.now) handle own ≤ most_frame_count }
@@ -247,7 +248,8 @@ fn initial_value_need(initial: &Initial, handle: usize, own: usize) -> usize
     }
 }
 
-/// Returns the frame words that operands and their result need: `first` words precede all operands, and the result has `own` words.
+/// Returns the frame words that operands and their result need: `first` words of the frame are occupied before all operands, and
+/// the result has `own` words.
 #[cycle(need)]
 fn operands_need(operands: &[Converted], first: usize, own: usize) -> usize
     requires { operands_need (arguments_of operands.now) first own ≤ most_frame_count }
@@ -262,7 +264,7 @@ fn operands_need(operands: &[Converted], first: usize, own: usize) -> usize
     need.max(before + own)
 }
 
-/// Returns the frame words that an operator of a chain of this type needs, if its left operand has `left` words.
+/// Returns the frame words that an operator needs in a chain of binary operators of this type, if its left operand has `left` words.
 #[cycle(need)]
 fn operation_need(operation: &Operation, of_type: &Ty, left: usize) -> usize
     requires { operation_need operation.now (view_ty of_type.now) left ≤ most_frame_count }
@@ -279,7 +281,7 @@ fn operation_need(operation: &Operation, of_type: &Ty, left: usize) -> usize
     }
 }
 
-/// Returns the frame words that the rest of an operator chain needs. The part of the chain before an operator is the operator's left
+/// Returns the frame words that the rest of a chain of binary operators needs. The chain before an operator is the operator's left
 /// operand, and has the chain's type unless it is only the first operand.
 #[cycle(need)]
 fn operations_need(operations: &[Operation], of_type: &Ty, first: usize) -> usize
@@ -295,7 +297,7 @@ fn operations_need(operations: &[Operation], of_type: &Ty, first: usize) -> usiz
     need
 }
 
-/// Returns the frame words that the evaluation of an optional expression needs.
+/// Returns the frame words that the evaluation of an optional expression needs; none if the expression is absent.
 fn initial_need(value: &Option<Converted>) -> usize
     requires { initial_need (option_map view_converted value.now) ≤ most_frame_count }
     ensures { result ≡ initial_need (option_map view_converted value.now) }
@@ -381,7 +383,7 @@ fn item_need(item: &Item) -> usize
     }
 }
 
-/// Returns the greatest number of frame words that an expression in a block needs.
+/// Returns the greatest number of frame words that the evaluation of an expression in a block needs.
 #[cycle(greatest)]
 pub fn items_need(items: &[Item]) -> usize
     requires { items_need (items_of items.now) ≤ most_frame_count }
@@ -394,7 +396,7 @@ pub fn items_need(items: &[Item]) -> usize
     need
 }
 
-/// Returns the greatest number of frame words that an expression in catch clauses needs.
+/// Returns the greatest number of frame words that the evaluation of an expression in catch clauses needs.
 #[cycle(greatest)]
 fn clauses_need(clauses: &[Clause]) -> usize
     requires { clauses_need (clauses_of clauses.now NoClauses) ≤ most_frame_count }
@@ -418,8 +420,8 @@ fn default_need(default: &Option<Body>) -> usize
     }
 }
 
-/// Returns the number of frame words that are reserved for a statement in addition to the variables: some words for
-/// each `try`, and one word for each lexical region.
+/// Returns the number of frame words that a statement reserves in addition to those of its variables: some words
+/// for each `try`, and one word for each lexical region.
 #[cycle(kept)]
 fn kept_by(statement: &Stmt) -> usize
     requires { kept_by (view_statement statement.now) ≤ most_frame_count }
@@ -458,7 +460,7 @@ fn kept_by_item(item: &Item) -> usize
     }
 }
 
-/// Returns the number of frame words that are reserved for the declarations and statements of a block in addition to the variables.
+/// Returns the number of frame words that the declarations and statements of a block reserve in addition to those of their variables.
 #[cycle(kept)]
 pub fn kept_by_items(items: &[Item]) -> usize
     requires { kept_by_items (items_of items.now) ≤ most_frame_count }
@@ -494,7 +496,7 @@ fn kept_by_default(default: &Option<Body>) -> usize
     }
 }
 
-/// Returns the number of words of variables of these types.
+/// Returns the number of machine words that variables of these types occupy together.
 pub fn words_of_all(types: &[Ty]) -> usize
     requires { words_of_all (map view_ty types.now) ≤ most_frame_count }
     ensures { result ≡ words_of_all (map view_ty types.now) }
@@ -506,7 +508,7 @@ pub fn words_of_all(types: &[Ty]) -> usize
     words
 }
 
-/// Returns the frame count of a function, that is, the number of words that its frame may need.
+/// Returns the frame count of a function, that is, the number of machine words that its stack frame may need.
 pub fn frame_count(function: &Function) -> usize
     requires { frame_count (view_function function.now) ≤ most_frame_count }
     ensures { result ≡ frame_count (view_function function.now) }

@@ -122,7 +122,7 @@ fn arguments_weight(arguments: &[Converted]) -> usize
     for argument in arguments {
         weight += 1 + expression_weight(&argument.value);
     }
-    // The first operand has no comma before it.
+    // In the count of tokens, no comma is counted before the first operand of a list.
     weight.saturating_sub(1)
 }
 

@@ -1,5 +1,5 @@
--- This file proves that the programs of all texts are in the class of the soundness theorem. Declarations are in this class if their
--- types mention only regions that are already declared and no field is a key.
+-- This file proves that each program that the typing rules derive from source texts is in the class of programs that the soundness theorem
+-- covers. Declarations are in this class if their types mention only regions that are already declared and no struct field is a region key.
 use Rattle.std.proofs.Common.{ℕ, suc, ◌+◌, List, [], ◌∷◌, Option, Some, None}
 use Rattle.cyc_syntax.specs.Trees.{Declaration}
 use Rattle.cyc_types.specs.Types.{Ty, ValueType, Void, Null, Value}
@@ -136,6 +136,6 @@ structs_kept (s ∷ ss) (f, g) = (formed_in_fields s.parameters s.fields f, stru
 formed_kept : (p : Program) → IsFormedProgram p → IsInClass p
 formed_kept p formed = (functions_kept p.functions formed.functions, globals_kept p.globals formed.globals, structs_kept p.structs formed.structs)
 
--- If the typing rules derive a program from a tree, then no run of the program is dead or wrong.
+-- If the typing rules derive a program that the flow rules accept, then no run of the program accesses freed memory or goes wrong.
 pub typed_sound : (texts : List (List ℕ)) (tree : List Declaration) (p : Program) → IsTypedProgram texts tree p → IsAllowedProgram p → IsSound p
 typed_sound texts tree p typed allowed = class_sound p (program_well texts tree p typed) allowed (formed_kept p (program_formed texts tree p typed))

@@ -4,8 +4,8 @@ mod guard
 mod flow
 mod states
 mod steps
--- These modules prove the soundness theorem, which dependent crates cite: for the programs of the class, and for
--- programs that the typing rules derive from source texts.
+-- These modules prove the soundness theorem for the programs of the class, and for programs that the typing
+-- rules derive from source texts. Dependent crates cite the theorem.
 mod Whole
 pub mod FormedLemmas
 -- examples

@@ -1,5 +1,5 @@
--- This file completes the soundness proof. Every step of a typed state yields a typed state. No run of an accepted program of the
--- class is dead or wrong.
+-- This file completes the soundness proof. Every step of a well-typed run state yields a well-typed run state. No run of an
+-- accepted program in the class of covered programs accesses freed memory or goes wrong.
 use Rattle.std.proofs.Common.{◌≡◌, ◌≢◌, inl, inr, ℕ, ◌≤◌, zero, suc, Bool, true, false, List, [], ◌∷◌, length, map, Option, Some, None, slice_get, refl, sym, ap, subst, ◌∙◌, arith}
 use Rattle.std.specs.Prelude.{if◌then◌else◌, ◌==◌, Contains}
 use Rattle.std.proofs.lemmas.Bool.{eq-eqb, eqb-true, not-true}
@@ -132,7 +132,7 @@ accepted_among p (f ∷ hs) (one, well) (u, d, flows) (in_one, kept) (suc n) h f
 
 -- ---- the start state
 
--- At the start of a run, each global has one filled cell.
+-- At the start of a run, each global is an object with one cell, which holds a value.
 abbrev ones : List GlobalVariable → List ℕ
 ones vs = map (λ (v : GlobalVariable). 1) vs
 
@@ -229,7 +229,7 @@ all_fields n [] kept field t found = absurd (let z : None ≡ Some t = found in 
 all_fields n (u ∷ ts) (one, usual, kept) zero t found = subst (λ z. IsDeclarable n z) (same_Some u t found) one
 all_fields n (u ∷ ts) (one, usual, kept) (suc field) t found = all_fields n ts kept field t found
 
--- In a program of the class, no field of a struct is a key.
+-- In a program of the class that the soundness proof covers, no field of a struct is a region key.
 all_usual : (n : ℕ) (ts : List Ty) → InFields n ts → (field : ℕ) (t : Ty) → slice_get ts field ≡ Some t → is_key t ≡ false
 all_usual n [] kept field t found = absurd (let z : None ≡ Some t = found in cc)
 all_usual n (u ∷ ts) (one, usual, kept) zero t found = subst (λ z. is_key z ≡ false) (same_Some u t found) usual
@@ -250,7 +250,7 @@ cells_counted ls s ts is = go (length ls == s.parameters) refl is
     go true same is = eqb-true (length ls) s.parameters same
     go false other is = absurd (let z : None ≡ Some ts = is in cc)
 
--- In a function without constraints, no region outlives the unique region.
+-- In a function without outlives constraints, no region outlives the unique region.
 plain_given : (h : Function) (a : Region) → h.constraints ≡ [] → IsGiven (regions_at_call h) a regions.Unique → ⊥
 plain_given h a none (inl (heap, plain)) = plain refl
 plain_given h a none (inr (inl written)) = absurd (Contains-empty (a, regions.Unique) (subst (λ ps. Contains ps (a, regions.Unique)) none written))

@@ -1,4 +1,4 @@
--- These modules contain example texts, and programs that the rules accept or reject.
+-- These modules contain example source texts, and example programs that the typing and flow rules accept or reject.
 pub mod Examples
 pub mod LaterRegions
 pub mod KeyFields

@@ -1,4 +1,4 @@
--- These modules prove facts that the flow rules imply for a tree.
+-- These modules prove facts that hold for each typed syntax tree that the flow rules accept.
 pub mod FlowLemmas
 pub mod RuleLemmas
 pub mod Looking

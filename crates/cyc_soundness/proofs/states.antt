@@ -1,4 +1,5 @@
--- These modules are about the typing of states: how it grows, and how resources are transferred.
+-- These modules are about the typing of run states: how the facts about objects grow, and how resources (keys and unique pointers) are
+-- transferred.
 pub mod WorldLemmas
 pub mod Hands
 pub mod StillHands

@@ -1,4 +1,4 @@
--- These modules prove that each step of a typed state yields a typed state.
+-- These modules prove that each step of a well-typed run state yields a well-typed run state.
 pub mod Objects
 pub mod ArrayObjects
 pub mod Swapping

@@ -7,5 +7,5 @@ pub mod Frames
 pub mod Judgements
 pub mod Awaited
 pub mod Stacks
--- This module defines the class of programs that the proof covers.
+-- This module defines the class of programs that the soundness proof covers.
 pub mod Classes

@@ -25,8 +25,8 @@ pub fn allowed_programs_are_guarded()
     ensures { (program : Program) → IsWellTypedProgram program → IsAllowedProgram program → IsGuardedProgram program }
 {}
 
-/// The facts about a heap state (regions and objects) only grow, and typed parts of a run state stay typed. A value keeps its type for
-/// ever; a control stack keeps its type as long as no resource changes its holder.
+/// The facts about a heap state (regions and objects) only grow, and the well-typed parts of a run state stay well-typed. A value
+/// keeps its type for ever; a control stack keeps its type as long as no resource (key or unique pointer) changes its owner.
 pub fn typings_stay()
     ensures values { (g h : Typing) → Grows g h → (t : RunTy) (v : Value) → HasType g t v → HasType h t v }
     ensures stacks { (p : Program) (g h : Typing) → Stays g h → (x : Exits) (locals : List InScope) (want : Want) (stack : List Entry)
@@ -40,8 +40,7 @@ pub fn conversions_fit()
         → IsResult g (value_at n s) v → Fits g (at n t) (conversion (kind_of t) v.value) }
 {}
 
-/// If the typing rules derive a program from a tree and the flow rules accept the program, then no run of the program
-/// is ever dead or wrong.
+/// If the typing rules derive a program that the flow rules accept, then no run of the program accesses freed memory or goes wrong.
 pub fn typed_programs_are_sound()
     ensures { (texts : List (List ℕ)) (tree : List Declaration) (p : Program) → IsTypedProgram texts tree p → IsAllowedProgram p → IsSound p }
 {}

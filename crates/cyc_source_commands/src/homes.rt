@@ -14,8 +14,8 @@ fn home_of<'a>(parts: &[Part<'a>], line: u32) -> Option<(&'a str, u32)> {
     Some((part.name, part.line.saturating_add(beyond)))
 }
 
-/// Reads a line number followed by `sign` at the start of a text. Returns the other file that
-/// contains this line of the joined text, the line's number in it, and the rest of the text.
+/// Reads a line number followed by `sign` at the start of a text. Returns the other file that contains this line of the joined text, the
+/// line's number in it, and the rest of the text.
 fn home_in<'a, 't>(
     parts: &[Part<'a>],
     text: &'t str,

@@ -79,7 +79,8 @@ fn deeper(kind: TokenKind) -> i64 {
     }
 }
 
-/// Returns true if the first tokens of a declaration belong to a function; of the other declarations, only exceptions contain parentheses.
+/// Returns true if the first tokens of a declaration are those of a function declaration; of the other declarations, only exceptions
+/// contain parentheses.
 fn is_function(tokens: &[Token]) -> bool {
     let mut has_bracket = false;
     for token in tokens {
@@ -124,7 +125,7 @@ fn is_constructor(tokens: &[Token], place: usize) -> bool {
     }
 }
 
-/// Returns true if a token follows the name of a declared function or global.
+/// Returns true if the token is one that comes directly after the name in a declaration of a function or global.
 fn ends_name(kind: TokenKind) -> bool {
     matches!(
         kind,
@@ -446,7 +447,7 @@ fn count_lines(bytes: &[u8]) -> u32 {
     count
 }
 
-/// A joined text, and the parts of the text that come from other files.
+/// A joined text, with a list of the stretches of lines that come from other files.
 #[derive(Drop)]
 pub struct Joined<'a> {
     pub text: Vec<u8>,

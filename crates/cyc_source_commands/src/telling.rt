@@ -22,7 +22,7 @@ use std::io::Write;
 pub(crate) struct Source<'a> {
     pub(crate) name: &'a str,
     pub(crate) text: &'a [u8],
-    /// The parts of the text that come from other files.
+    /// The stretches of lines of the joined text that come from other files.
     pub(crate) parts: &'a [Part<'a>],
     /// If true, findings (faults or warnings) are printed as JSON objects on standard output; if false, as messages to the
     /// user on standard error.

@@ -1,4 +1,4 @@
--- This file states the typing rule for an alias in terms of those properties of its scope that hold after its region is declared.
+-- This file states the typing rule for `let alias` in terms of those properties of its scope that hold after its region is declared.
 use Rattle.std.proofs.Common.{◌≡◌, ℕ, [], ◌∷◌, Option, None, refl, sym, ap, subst, ◌∙◌}
 use Rattle.cyc_words.specs.declared.fault.Fault.{Fault}
 use Rattle.cyc_syntax.specs.Symbols.{Place}
@@ -13,7 +13,7 @@ use Rattle.cyc_scope.specs.declared.stop.Stop.{Stop}
 use Rattle.cyc_scope.specs.inside.Code.{Stops}
 use Rattle.cyc_statements.specs.inside.Aliases.{alias_of}
 
--- The typing rule for the alias of a name in a scope.
+-- The typing rule, in a given scope, for a `let alias`, which declares the local `x` so that it shares the object of the variable `y`.
 abbrev alias_in : (s : Scope) (own : ℕ) (x : Named) → WrittenType → (y : Named) → Rule typed.Item
 alias_in s own x w y = alias_of (is_declared s x) s.structs s.names s.next_local own x w (meaning_of s y) y.place
 
@@ -31,7 +31,8 @@ following_region g r x w y new =
     ap (λ (m : Rule typed.Item). and_then (run (demands (type_demanded g.structs (with_name r g).names None w))) (λ u. run m)) (same_alias g r x w (meaning_of g y) y.place)
     ∙ sym (ap (λ (o : Option Fault). and_then (unless o (tt {0})) (λ v. and_then (run (demands (type_demanded g.structs (with_name r g).names None w))) (λ u. run (aliased g r x w (meaning_of g y) y.place)))) new)
 
--- If an alias has a valid type, then a fault of the alias found after its region is the fault of the whole declaration.
+-- If a `let alias` has a new region name and a valid type, then a fault found after its region is declared is the whole
+-- declaration's fault.
 pub alias_stops : (g s : Scope) (own : ℕ) (r x : Named) (w : WrittenType) (y : Named) (e : Stop) → s ≡ with_opened kinds.Alias r g → own ≡ g.next_region
     → settled None (new_name_demanded g r ∷ []) ≡ None → settled None (type_demanded s.structs s.names None w) ≡ None → Stops e (run (alias_in s own x w y)) → Stops e (run (rule_alias g r w x y))
 alias_stops g s own r x w y e opened number new known stops =

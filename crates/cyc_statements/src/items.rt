@@ -104,7 +104,8 @@ fn is_region_known(scope: &Scope<'_>, name: Ident) -> Result<(), Stop>
     settled.end()
 }
 
-/// Checks that the variable of this type, whose name is at this source position, may open a region.
+/// Checks that a variable of this type, named at this source position, may open a region: it must be the region's key, and the handle's
+/// name must be new.
 fn is_opened(
     scope: &Scope<'_>,
     region: Ident,
@@ -149,7 +150,7 @@ pub struct Initialised {
     value: Option<Box<typed::Expr>>,
 }
 
-/// Returns a local whose initial value is at this source position.
+/// Returns the type and the initial value of a local; the initial value is at this source position.
 pub fn initialise(
     scope: &Scope<'_>,
     written: &WrittenType,
@@ -175,7 +176,7 @@ pub fn initialise(
     })
 }
 
-/// Returns a local without an initial value.
+/// Returns the type of a local that is declared without an initial value.
 pub fn uninitialised(
     scope: &Scope<'_>,
     written: &WrittenType,
@@ -441,7 +442,8 @@ fn alias_type(scope: &Scope<'_>, written: &WrittenType, of_type: &Ty) -> Result<
     )
 }
 
-/// Returns the alias of the variable with this name; the region of the alias, identified by the number `own`, is already in scope.
+/// Returns the tree node that declares an alias of the variable `source`; the region of the alias, identified by the number `own`,
+/// is already in scope.
 fn aliased(
     scope: &Scope<'_>,
     own: usize,

@@ -1,4 +1,5 @@
--- This file is about allocated and freed blocks: an allocated block is live as requested, and a freed or closed block is not live.
+-- This file is about allocated and freed blocks: allocated blocks are live, freed blocks are not, and the handle of a closed
+-- dynamic region names no region.
 use Rattle.std.proofs.Common.{◌≡◌, ℕ, ◌∷◌, Option, None, Some, true, refl, sym, ap, subst, ◌∙◌, inl, inr}
 use Rattle.std.specs.Prelude.{is_some, if◌then◌else◌}
 use Rattle.std.proofs.lemmas.Bool.{cases_eq}
@@ -49,7 +50,7 @@ made-there s h r b sound there placed apart =
     ∙ (ap (λ o. block_in o b.address) (lookup-changed_same handle_of (with_block b) (λ q. refl) (homes s) h r there)
     ∙ lookup-append_new address_of r.blocks b b.address (address-fresh_in s h r b sound there placed apart) refl)
 
--- An allocated block is live and has the requested number of words.
+-- An allocated block is live. It has the requested number of words or, if it is a unique block, the size of its size class.
 pub serves-made : (s t : StoreState) (h n x : ℕ) → IsSound s → Serves s (Allocate h n) (Allocated x) t
     → block_at (homes t) h x ≡ Some (record { address = x; size = room h n })
 serves-made s t h n x sound serves = by (refusal s (Allocate h n)) refl serves

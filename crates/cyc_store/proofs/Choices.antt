@@ -1,5 +1,5 @@
--- If a store with a layout in pages does not refuse a call, then it can choose a handle, an address and a memory such that
--- a layout remains.
+-- If a store's blocks are laid out in pages and a call is not refused, some choice of handle, address and memory contents
+-- keeps the blocks laid out in pages.
 use Rattle.std.proofs.Common.{◌≡◌, ℕ, zero, suc, ◌+◌, ◌*◌, ◌^◌, ◌<◌, ◌≤◌, Bool, true, false, List, [], ◌∷◌, length, Option, None, Some, refl, sym, ap, subst, ◌∙◌, inl, inr, arith}
 use Rattle.std.specs.Prelude.{◌⊎◌, ◌-◌, nat_le, is_some, slice_index, if◌then◌else◌}
 use Rattle.std.proofs.lemmas.Bool.{cases_lt, cases_eq, and_parts, leb-true}
@@ -49,7 +49,7 @@ start-ordered (suc count) memory words some few = record {
 
 -- ---- an unused handle
 
--- If there are more numbers than regions, then one of the numbers is an unused handle.
+-- If there are fewer than `n` regions, then one of the numbers below `n` is not the handle of a region.
 fresh-below : (n : ℕ) (rs : List Home) → length rs < n → (h : ℕ) × (h < n) × (lookup handle_of rs h ≡ None)
 fresh-below zero rs few = absurd (omega (arith, few))
 fresh-below (suc n) rs few = by (lookup handle_of rs n) refl (λ fewer. fresh-below n (without handle_of rs n) fewer)
@@ -117,7 +117,7 @@ module _ (s : StoreState) (o : IsOrdered s) where
   -- ---- allocating a block
 
   module _ (h n : ℕ) (none : refusal s (Allocate h n) ≡ None) where
-    -- If a request is not refused, then its handle names a region and its size is allowed.
+    -- If a request for a block is not refused, then its handle names a region and its size is allowed.
     sized : (is_some (lookup handle_of (homes s) h) ≡ true) × (1 ≤ n) × (n ≤ MOST_BLOCK_WORDS)
     sized =
         let (named, rest) = then-none (is_some (lookup handle_of (homes s) h)) (if is_size n then full_at (is_full s (Allocate h n)) else Some BadSize) BadHandle none in
@@ -135,7 +135,7 @@ module _ (s : StoreState) (o : IsOrdered s) where
       found : IsOrdered (served s (Allocate h n) (chosen 0 address)) → HasChoice s (Allocate h n)
       found ordered = record { choice = chosen 0 address; allowed = allowed-there; ordered = ordered }
 
-  -- The proof for an allocation in a region.
+  -- The proof that for a block in a region, the store can choose an address so that its blocks are still laid out in pages.
   module _ (h n : ℕ) (none : refusal s (Allocate h n) ≡ None) (ordinary : h ≡ UNIQUE → ⊥) where
     plain : room h n ≡ n
     plain = when_other h UNIQUE (2 ^ class_of n) n ordinary
@@ -198,7 +198,7 @@ module _ (s : StoreState) (o : IsOrdered s) where
         let (r, named) = some_there (lookup handle_of (homes s) h) (sized h n none).0 in
         region-by r named l.free refl (cases_lt PAGE_WORDS ((mark_of r).filled + room h n))
 
-  -- The proof for an allocation of a unique block.
+  -- The proof that for a unique block, the store can choose an address so that its blocks are still laid out in pages.
   module _ (n : ℕ) (none : refusal s (Allocate UNIQUE n) ≡ None) where
     abbrev class : ℕ
     class = class_of n
@@ -218,7 +218,7 @@ module _ (s : StoreState) (o : IsOrdered s) where
         → IsPlaced s.pages (block_of UNIQUE n (chosen 0 address)) × IsApart (homes s) (block_of UNIQUE n (chosen 0 address))
     may-be address placed apart = subst (λ (b : Block). IsPlaced s.pages b × IsApart (homes s) b) (sym (block-is address)) (placed, apart)
 
-    -- The proof for an allocation in an empty slot.
+    -- The proof that a unique block can be put into an empty slot of its size class so that the store's blocks are still laid out in pages.
     in-slot : (w : ℕ) (rest : List ℕ) → l.dead class ≡ w ∷ rest → HasChoice s (Allocate UNIQUE n)
     in-slot w rest next =
         let may = may-be (place_of w) (dead-placed s l o.laid class w bound rest next) (dead-apart s l o.laid class w bound rest next) in
@@ -341,7 +341,7 @@ module _ (s : StoreState) (o : IsOrdered s) (r : Home) (there : lookup handle_of
         (closed-sound s (without handle_of s.regions r.handle) s.memory o.laid.sound (IsPart-without handle_of s.regions r.handle) o.laid.sound.words);
   }
 
--- Closing any number of regions preserves the layout.
+-- Closing any number of regions preserves the existence of a layout of the store's blocks in pages.
 ordered-part : (left : ℕ) (s : StoreState) (qs : List Home) → length s.regions ≤ left → IsOrdered s → IsPart qs s.regions → IsOrdered (record s { regions = qs })
 ordered-part zero s qs most o part = elim (part-step part o.laid.sound.regions.handles.1) [
   | inl same ↦ subst (λ rs. IsOrdered (record s { regions = rs })) (sym same) o
@@ -374,7 +374,7 @@ has-choice s o (CloseDynamic handle) none = closes s o handle none
 has-choice s o (Allocate handle words) none = allocates s o handle words none
 has-choice s o (Free address) none = frees s o address none
 
--- Writing a word preserves the layout.
+-- Writing a word of the store preserves the existence of a layout of the store's blocks in pages.
 pub saved-ordered : (s : StoreState) (address word : ℕ) → IsOrdered s → IsWord word → IsOrdered (saved s address word)
 saved-ordered s address word o is = by (word_at s address) (saved-sound s address word o.laid.sound is)
   where

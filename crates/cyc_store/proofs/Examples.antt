@@ -26,7 +26,8 @@ abbrev filled : StoreState
 filled =
     then_do (then_do (then_do (then_do open_one (Allocate 3 1000) 0 (at 1 0)) (Allocate 3 24) 0 (at 1 1000)) (Allocate 3 1) 0 (at 2 0)) (Allocate 3 1000) 0 (at 2 1)
 
--- The heap and the new region need one page each, then the region needs two pages, and then no more.
+-- Examples: a new store needs one page, for the heap. An open region needs a second page, and after
+-- it is filled a third one; then the store is out of pages.
 demand_of_new : demand new ≡ 1
 demand_of_new = refl
 
@@ -48,7 +49,7 @@ heap_is_not = refl
 region_is_full : refusal filled OpenDynamic ≡ Some Full
 region_is_full = refl
 
--- These examples show the reasons for a refusal, in their order.
+-- These examples show requests that the store refuses, one reason after the other, in the order in which the store tests the reasons.
 empty_block : refusal filled (Allocate 3 0) ≡ Some BadSize
 empty_block = refl
 

@@ -97,7 +97,7 @@ module _ (h : ℕ) (x : ℕ) where
 
 -- ---- the blocks of all regions
 
--- A block that contains an address belongs to a region that has a handle.
+-- The handle that is recorded for the block that contains an address is the handle of a region in the list.
 pub holder-named : (rs : List Home) (x : ℕ) (k : Holder) → holder rs x ≡ Some k → lookup handle_of rs k.handle ≡ None → ⊥
 holder-named [] x k found none = let e : None ≡ Some k = found in cc
 holder-named (r ∷ rs) x k found none =

@@ -30,7 +30,7 @@ module _ (t : PageTable) (lexicals : List ℕ) (classes : List ClassSlots) (b : 
   abbrev IsNone : Type 0
   IsNone = lookup address_of b.unique address ≡ None
 
-  -- If no slot begins at an address, then no block begins there.
+  -- If no slot for unique blocks begins at an address, then no unique block begins at this address.
   none-unless : ((class word : ℕ) → IsSlot k.layout.pages.owner k.layout.class class word → address ≡ place_of word → ⊥) → IsNone
   none-unless never = elim (none_or_some (lookup address_of b.unique address)) [
     | inl none ↦ none
@@ -39,7 +39,7 @@ module _ (t : PageTable) (lexicals : List ℕ) (classes : List ClassSlots) (b : 
         absurd (never live.class live.word live.slot (sym (lookup-key address_of b.unique address x there) ∙ ap address_of live.is))
   ]
 
-  -- No block begins at an address that is below all words or inside a word.
+  -- No unique block begins at an address that lies below the store's first word or is not a multiple of 4.
   pub block-unplaced : (address < 536870912) ⊎ (address % 4 ≢ 0) → IsNone
   block-unplaced bad = none-unless (λ class word slot at. clash address word at bad)
     where
@@ -48,7 +48,7 @@ module _ (t : PageTable) (lexicals : List ℕ) (classes : List ClassSlots) (b : 
       clash a w at (inr odd) = odd (omega (arith, at))
 
   module _ (word : ℕ) (at : address ≡ 536870912 + 4 * word) where
-    -- If no slot begins at the word of an address, then no block begins at the address.
+    -- If no slot for unique blocks begins at the word with an address, then no unique block begins at this address.
     slot-unless : ((class : ℕ) → IsSlot k.layout.pages.owner k.layout.class class word → ⊥) → IsNone
     slot-unless never = none-unless (λ class w slot also. never class (subst (IsSlot k.layout.pages.owner k.layout.class class) (same-words w word (sym also ∙ at)) slot))
 
@@ -93,7 +93,7 @@ module _ (t : PageTable) (lexicals : List ℕ) (classes : List ClassSlots) (b : 
 
         module _ (first : word % 1024 / 2 ^ class * 2 ^ class ≡ word % 1024) (mark : Bool)
             (marked : mark ≡ slice_index_or t.live.items word mark) where
-          -- The word is the first word of the slot that contains it.
+          -- The word with the given index is the first word of the slot that contains it.
           place-is : PAGE_WORDS * (word / 1024) + word % 1024 / 2 ^ k.layout.class (word / 1024) * 2 ^ k.layout.class (word / 1024) ≡ word
           place-is =
               ap (λ c. PAGE_WORDS * (word / 1024) + word % 1024 / 2 ^ c * 2 ^ c) page-is.1

@@ -87,7 +87,7 @@ module _ (t : PageTable) (lexicals : List ℕ) (classes : List ClassSlots) (b : 
       quarter : (x n l : ℕ) → n ≡ l → 536870912 + 4 * n ≤ x → l ≤ (x - 536870912) / 4
       quarter x n l all past = omega (arith, all, past)
 
-  -- All words that exist lie in the store's pages.
+  -- The page table has at most as many words as the largest allowed number of pages contains.
   pub words-few : length t.words.items ≤ 67108864
   words-few = within (length t.words.items) (length t.rows.items) t.most k.whole.words k.tied.few k.tied.most
     where
@@ -111,7 +111,7 @@ load-dead s x n place dead = dead-word s x (none-held (holder (homes s) x) (ap (
 pub load-live : (s : StoreState) (x n : ℕ) → x ≡ 536870912 + 4 * n → true ≡ is_some (holder (homes s) (536870912 + 4 * n)) → is_some (word_at s x) ≡ true
 load-live s x n place live = ap is_some (live-word s x (place-even x n place) (ap (λ y. is_some (holder (homes s) y)) place ∙ sym live))
 
--- The word that is read at a live address is the word of the store.
+-- The word that the page table has for an address in a live block is the word that the store relation gives for this address.
 pub load-word : (pages : ℕ) (words : List ℕ) (b : Blocks) (x n r : ℕ) → x ≡ 536870912 + 4 * n → n < length words → is_some (word_at (store_of pages words b) x) ≡ true
     → r ≡ slice_index_or words n r → Some r ≡ word_at (store_of pages words b) x
 load-word pages words b x n r place inside live read = elim (none_or_some (holder (homes (store_of pages words b)) x)) [

@@ -193,7 +193,7 @@ module _ (t : PageTable) (lexicals : List ℕ) (classes : List ClassSlots) (b : 
         same-next [] = tt
         same-next (x ∷ xs) = (ap (λ (y : Row). y.next) (draws.rows x), same-next xs)
 
-        -- The region stays represented in the table after a page was taken.
+        -- After a free page is taken, the page table still represents the region.
         abbrev rooted-u : IsRooted (table_of u).row k.layout.pages r
         rooted-u = record {
           root = rooted.root;
@@ -272,7 +272,7 @@ module _ (t : PageTable) (lexicals : List ℕ) (classes : List ClassSlots) (b : 
       pub last-few : last.filled ≤ 1024
       last-few = subst (λ n. n ≤ 1024) (sym last-filled) filled-few
 
-      -- The block is allocated after the filled words of the newest page.
+      -- The case of a new block that fits after the filled words of its region's newest page.
       module _ (n : ℕ) (least : 1 ≤ n) (most : n ≤ MOST_BLOCK_WORDS) (room : last.filled + n ≤ 1024) (address : ℕ)
           (place : address ≡ 536870912 + 4 * (1024 * first.newest + last.filled)) where
         abbrev made_block : Block
@@ -300,7 +300,7 @@ module _ (t : PageTable) (lexicals : List ℕ) (classes : List ClassSlots) (b : 
             (subst (λ (x : Row). Rewrites t v rooted.chain.newest.page (filled_row x (last.filled + n))) (sym last-row)
             (subst (λ p. Rewrites t v p (record last { filled = last.filled + n })) first-newest is))))
 
-      -- The block is allocated in a new page.
+      -- The case of a new block that does not fit in its region's newest page, so that another page is taken for it.
       module _ (n : ℕ) (least : 1 ≤ n) (most : n ≤ MOST_BLOCK_WORDS) (past : 1024 < last.filled + n) where
         is-past : PAGE_WORDS < (mark_of r).filled + n
         is-past = subst (λ m. 1024 < m + n) last-filled past

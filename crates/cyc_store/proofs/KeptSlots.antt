@@ -97,7 +97,7 @@ module _ (t : PageTable) (lexicals : List ℕ) (classes : List ClassSlots) (b : 
   pub stock-is : IsStocked (table_of t).word slots class dead
   stock-is = k.tied.stock class bound
 
-  -- The first word of a slot is one of the existing words.
+  -- The first word of a slot is a word of the page table: its index is below the number of the table's words.
   pub slot-there : (w : ℕ) → IsSlot k.layout.pages.owner k.layout.class class w → w < length t.words.items
   slot-there w slot = within slot.page (slot.number * 2 ^ class) (2 ^ class) w (length t.rows.items) (length t.words.items) slot.at slot.fits (pow_pos class)
       (k.tied.drawn slot.page UNIQUE slot.owned) k.whole.words

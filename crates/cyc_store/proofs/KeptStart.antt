@@ -156,7 +156,7 @@ module _ (t : PageTable) (least_pages : 1 ≤ t.most) (most : t.most ≤ 65536) 
       past : (n m : ℕ) → n ≡ 0 → 1 ≤ m → m ≤ n → ⊥
       past n m none some more = omega (arith, none, some, more)
 
-  -- The store in which only the heap is open; the heap's first page is given.
+  -- The store in which only the heap is open, with the page `root` as the heap's first page.
   abbrev with_heap : (root : ℕ) → StoreState
   with_heap root = opened (store_of t.most t.words.items no_regions) (handle_of_page root) Heap
 

@@ -57,7 +57,8 @@ down_to-all m (r ∷ rs) few = by m few (cases_Bool (is_lexical r.sort)) (λ k a
 
 -- ---- the newest lexical region
 
--- The last handle of the list names the newest lexical region; closing this region is closing until one region less is open.
+-- The last handle in the list of lexical handles names the newest lexical region. Closing this region equals closing lexical
+-- regions until one less is open.
 record IsNewest (rs : List Home) (older : List ℕ) (h : ℕ) : Type 0 where
   pub region : Home
   pub named : lookup handle_of rs h ≡ Some region
@@ -80,7 +81,8 @@ newest-is [] left h distinct is = absurd (empty left is)
     empty (x ∷ xs) e = cc
 newest-is (r ∷ rs) left h distinct is = by left is (cases_Bool (is_lexical r.sort)) (λ xs e. newest-is rs xs h distinct.1 e)
   where
-    -- If a newer lexical region follows a lexical region in the list, then the older region's handle is not the last handle.
+    -- If a newer lexical region follows a lexical region in the list of regions, the older region's handle is not the last
+    -- of the lexical handles.
     following : (xs : List ℕ) → IsNewest rs xs h → (r.handle ≡ h → ⊥)
     following xs rest e = never_none_and_some (subst (λ n. lookup handle_of rs n ≡ None) e distinct.0) rest.named
 
@@ -179,7 +181,8 @@ module _ (t : PageTable) (lexicals : List ℕ) (classes : List ClassSlots) (b : 
         → Unwinds (record { pages = t.most; words = t.words.items; blocks = b; room = old }) (record { pages = v.most; words = v.words.items; blocks = c; room = new })
     newest-unwinds v old new most words room = record { count = newest-count; regions = newest-down; same = newest-same v old new most words room }
 
--- After the loop, the open regions are those that remain if all lexical regions except the oldest `mark` ones are closed at once.
+-- After the loop that closes lexical regions one by one, the open regions are as if all but the oldest `mark` lexical regions
+-- were closed at once.
 pub unwound : (old new : Stored) (mark : ℕ) → new ≡ record old { blocks = record old.blocks { regions = new.blocks.regions } }
     → down_to mark new.blocks.regions ≡ down_to mark old.blocks.regions → lexical_count new.blocks.regions ≤ mark
     → held_of new ≡ record (held_of old) { regions = down_to mark old.blocks.regions }

@@ -10,12 +10,13 @@ use Rattle.cyc_store.specs.Made.{call_of, Makes, AreOf, MakesAll}
 use Rattle.cyc_store.specs.declared.runs.Asked.{Asked}
 use Rattle.cyc_store.specs.declared.runs.Asked.TheVariants as asked
 
--- A call that opens or closes a region, or allocates or frees a block, has a result that the definition of results allows.
+-- A call that opens or closes a region, or allocates or frees a block, has a result that `Makes` (the definition of a
+-- call's possible results) allows.
 pub responds : (grows : Bool) (a : Asked) (call : Call) (o : Option Answer) (s t : StoreState) → call_of a ≡ Some call → Responds grows s call o t → Makes grows a s t
 responds grows a call (Some answer) s t is serves = inl (Service call answer, is, serves)
 responds grows a call None s t is (wants, free, same) = inr (wants, same)
 
--- A read or a write of a word of the store has a result that the definition of results allows.
+-- A read or a write of a word of the store has a result that `Makes` (the definition of a call's possible results) allows.
 pub loads : (grows : Bool) (address : ℕ) (word : Option ℕ) (s : StoreState) → word ≡ word_at s address → Makes grows (asked.Load address) s s
 loads grows address word s is = inl (Load address word, refl, (is, refl))
 

@@ -66,14 +66,16 @@ module _ (m : Mark) (size : ℕ) where
 -- ---- one block more
 
 module _ (s : StoreState) (pages : Pages) (free : List ℕ) (paged : IsPaged s pages free) (h : ℕ) (r : Home) (named : lookup handle_of s.regions h ≡ Some r) where
-  -- If the newest page of a region has space for a block, then its allocation does not raise the number of pages that are needed.
+  -- If the newest page of a region has space for a block, then allocating this block does not raise the number of pages that the
+  -- store needs.
   pub demand-stays : (b : Block) → (mark_of r).filled + b.size ≤ PAGE_WORDS → demand (made_in s h b) ≡ demand s
   demand-stays b room =
       balance_same (demand (made_in s h b)) (demand s) (region_pages (sizes_of r.blocks)) (region_pages (sizes_of r.blocks ++ b.size ∷ []))
       (demand-changed s.regions h r b s.classes named)
       (pages-next r b.size ∙ (ap (λ (m : Mark). m.pages) (mark-stays (mark_of r) b.size room) ∙ sym (pages-mark r)))
 
-  -- If the newest page of a region has no space for a block, then its allocation raises the number of needed pages by one.
+  -- If the newest page of a region has no space for a block, then allocating this block raises the number of pages that
+  -- the store needs by 1.
   pub demand-grows : (b : Block) → PAGE_WORDS < (mark_of r).filled + b.size → demand (made_in s h b) ≡ suc (demand s)
   demand-grows b past =
       balance_one_more (demand (made_in s h b)) (demand s) (region_pages (sizes_of r.blocks)) (region_pages (sizes_of r.blocks ++ b.size ∷ []))

@@ -1,4 +1,5 @@
--- A store with a layout in pages finds an address for a block of a region if enough pages are left, and preserves a layout.
+-- If a store's blocks are laid out in pages and enough pages are left, an address for a region's new block exists that
+-- keeps the blocks laid out so.
 use Rattle.std.proofs.Common.{◌≡◌, ℕ, ◌+◌, ◌*◌, ◌<◌, ◌≤◌, List, [], ◌∷◌, Some, refl, sym, subst, inl, inr, arith}
 use Rattle.std.specs.Prelude.{◌⊎◌}
 use Rattle.cyc_store.specs.State.{lookup, Home, handle_of, StoreState, homes, demand, made_in, room}
@@ -10,7 +11,7 @@ use Rattle.cyc_store.specs.Pages.{page_start, Pages, filled_to, drawn, mark_of, 
 use Rattle.cyc_store.proofs.PageServices.{stays-placed, drawn-placed, full-without}
 use Rattle.cyc_store.proofs.PagedRegions.{block_in_page, paged-stays, paged-draws}
 
--- Says that the store has a layout in some pages.
+-- Says that the blocks of a store are laid out in pages, of which a list of pages is free.
 pub record ArePages (s : StoreState) : Type 0 where
   pub pages : Pages
   pub free : List ℕ

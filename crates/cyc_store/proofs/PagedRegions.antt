@@ -1,4 +1,4 @@
--- Allocating a block in a region preserves the layout in pages.
+-- If a block is allocated in a region, the store's blocks are still laid out in pages.
 use Rattle.std.proofs.Common.{◌≡◌, ◌≢◌, ℕ, suc, ◌+◌, ◌*◌, ◌<◌, ◌≤◌, List, [], ◌∷◌, length, None, Some, refl, sym, ap, subst, ◌∙◌, inl, inr, arith}
 use Rattle.std.specs.List.{AllByRecursion}
 use Rattle.std.proofs.lemmas.Bool.{cases_eq}
@@ -110,7 +110,7 @@ still-chained pages page h free q chain = record {
 }
 
 module _ (s : StoreState) (pages : Pages) (h : ℕ) (r : Home) (named : lookup handle_of s.regions h ≡ Some r) (ordinary : h ≡ UNIQUE → ⊥) (size : ℕ) (some : 0 < size) where
-  -- An allocation in the newest page preserves the layout in pages.
+  -- If a block is allocated in its region's newest page, the store's blocks are still laid out in pages.
   pub paged-stays : (free : List ℕ) → IsPaged s pages free → (chain : HasChain pages r) → (mark_of r).filled + size ≤ PAGE_WORDS
       → IsPaged (made_in s h (block_in_page chain.newest.page (mark_of r).filled size)) (filled_to pages chain.newest.page ((mark_of r).filled + size)) free
   paged-stays free paged chain room = record {
@@ -148,7 +148,7 @@ module _ (s : StoreState) (pages : Pages) (h : ℕ) (r : Home) (named : lookup h
       moves : mark_of (with_block (block_in_page chain.newest.page (mark_of r).filled size) r) ≡ record { pages = (mark_of r).pages; filled = (mark_of r).filled + size }
       moves = mark-made r (block_in_page chain.newest.page (mark_of r).filled size) ∙ mark-stays (mark_of r) size room
 
-  -- An allocation at the start of a new page preserves the layout in pages.
+  -- If a block is allocated at the start of a new page, the store's blocks are still laid out in pages.
   pub paged-draws : (page : ℕ) (free : List ℕ) → IsPaged s pages (page ∷ free) → PAGE_WORDS < (mark_of r).filled + size → size ≤ PAGE_WORDS
       → IsPaged (made_in s h (block_in_page page 0 size)) (filled_to (drawn pages page h) page (0 + size)) free
   paged-draws page free paged past room = record {

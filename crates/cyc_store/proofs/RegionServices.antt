@@ -1,4 +1,4 @@
--- Opening a region, allocating a block in a region, and closing a region preserve the layout of a store.
+-- If a region is opened or closed, or a block is allocated in it, the store's blocks are still laid out in pages.
 use Rattle.std.proofs.Common.{◌≡◌, ◌≢◌, ℕ, ◌+◌, ◌*◌, ◌<◌, ◌≤◌, true, List, [], ◌∷◌, ◌++◌, length, Option, None, Some, refl, sym, ap, subst, ◌∙◌, inl, inr, arith}
 use Rattle.std.specs.Prelude.{◌⊎◌}
 use Rattle.std.specs.List.{AllByRecursion}
@@ -141,7 +141,7 @@ block-covers page word size u low high = covers_from (block_in_page page word si
 
 module _ (s : StoreState) (l : Layout) (laid : IsLaidOut s l) (h : ℕ) (r : Home) (named : lookup handle_of s.regions h ≡ Some r) (ordinary : h ≡ UNIQUE → ⊥)
     (size : ℕ) (some : 0 < size) (memory : Memory) where
-  -- An allocation in the newest page of a region preserves the layout.
+  -- If a block is allocated in its region's newest page, the store's blocks, including unique blocks, are still laid out in pages.
   pub stays-laid : (chain : HasChain l.pages r) → (mark_of r).filled + size ≤ PAGE_WORDS
       → lookup address_of r.blocks (block_in_page chain.newest.page (mark_of r).filled size).address ≡ None
       → IsSound (record (made_in s h (block_in_page chain.newest.page (mark_of r).filled size)) { memory = memory })
@@ -175,7 +175,7 @@ module _ (s : StoreState) (l : Layout) (laid : IsLaidOut s l) (h : ℕ) (r : Hom
             (block-covers chain.newest.page (mark_of r).filled size word past below)))
       ]
 
-  -- An allocation at the start of a new page preserves the layout.
+  -- If a block is allocated at the start of a new page, the store's blocks, including unique blocks, are still laid out in pages.
   pub draws-laid : (page : ℕ) (rest : List ℕ) → l.free ≡ page ∷ rest → PAGE_WORDS < (mark_of r).filled + size → size ≤ PAGE_WORDS
       → lookup address_of r.blocks (block_in_page page 0 size).address ≡ None
       → IsSound (record (made_in s h (block_in_page page 0 size)) { memory = memory })
@@ -209,7 +209,7 @@ module _ (s : StoreState) (l : Layout) (laid : IsLaidOut s l) (h : ℕ) (r : Hom
 
 -- ---- closing a region
 
--- The pages of a chain, put before the free pages in reverse order.
+-- The list of free pages after the pages of a region's chain are put before it in reverse order.
 abbrev pub moved : (chain free : List ℕ) → List ℕ
 moved [] free = free
 moved (page ∷ chain) free = moved chain (page ∷ free)

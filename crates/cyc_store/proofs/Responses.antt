@@ -1,4 +1,5 @@
--- This file is about the answers of a store with a layout: each call of the page model is a call of the store relation, with its answer.
+-- This file is about the answers of a store whose blocks are laid out in pages. Each call, as the page model performs it, is a call of
+-- the store relation, with its answer.
 use Rattle.std.proofs.Common.{◌≡◌, ℕ, suc, ◌+◌, ◌^◌, ◌<◌, ◌≤◌, true, false, List, [], ◌∷◌, length, Option, None, Some, refl, sym, ap, subst, ◌∙◌, inl, inr, arith}
 use Rattle.std.specs.Prelude.{◌&&◌, nat_le, is_some}
 use Rattle.std.proofs.lemmas.Bool.{cases_Bool, cond-true, cond-false, le-leb, lt-leb, ltb-true, ltb-false}
@@ -23,7 +24,7 @@ serves-none s call c none allowed = subst (λ o. ServesBy s call o (answer s cal
 pub serves-some : (s : StoreState) (call : Call) (why : Refusal) → refusal s call ≡ Some why → Serves s call (Refused why) s
 serves-some s call why is = subst (λ o. ServesBy s call o (Refused why) s) (sym is) (refl, refl)
 
--- If the store has enough pages for a call, then the call is not refused as full.
+-- If the store has enough pages for a call, then the call is not refused for lack of pages.
 pub full-none-within : (s : StoreState) (call : Call) → demand (served s call (any_choice s)) ≤ s.pages → full_at (is_full s call) ≡ None
 full-none-within s call few = elim (cases_Bool (is_full s call)) [
   | inl full ↦ absurd (clash s.pages (demand (served s call (any_choice s))) (ltb-true s.pages (demand (served s call (any_choice s))) full) few)

@@ -365,7 +365,7 @@ then-full : (b : Bool) (o : Option Refusal) (why : Refusal) → (why ≡ Full �
 then-full true o why other e = e
 then-full false o why other e = absurd (other (same_from_some e))
 
--- A call is refused as full only if it would need more pages than the store has.
+-- A call is refused for lack of pages only if it would need more pages than the store has.
 pub full-past : (s : StoreState) (call : Call) → refusal s call ≡ Some Full → s.pages < demand (served s call (any_choice s))
 full-past s OpenLexical e = past s OpenLexical (full-some (is_full s OpenLexical) e)
 full-past s (CloseTo mark) e = absurd (only-why (nat_le mark (lexical_count s.regions)) BadMark (λ k. cc) e)

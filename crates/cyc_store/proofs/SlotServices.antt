@@ -1,4 +1,4 @@
--- Allocating a unique block in an empty slot, and freeing a unique block, preserve the layout of a store.
+-- If a unique block is allocated in an empty slot, or freed, the store's blocks are still laid out in pages.
 use Rattle.std.proofs.Common.{◌≡◌, ◌≢◌, ℕ, suc, ◌+◌, ◌*◌, ◌^◌, ◌<◌, ◌≤◌, true, List, [], ◌∷◌, ◌++◌, length, Option, Some, refl, sym, ap, subst, ◌∙◌, inl, inr, arith}
 use Rattle.std.specs.Prelude.{◌==◌, if◌then◌else◌}
 use Rattle.std.specs.List.{AllByRecursion}
@@ -45,7 +45,7 @@ slot-lies owner class_at c w slot = record {
 pub same-words : (v w : ℕ) → place_of v ≡ place_of w → v ≡ w
 same-words v w e = omega (arith, e)
 
--- The first address of a slot belongs to the slot.
+-- A slot contains the address of its first word.
 pub first-in : (c w : ℕ) → covers (slot_block c w) (place_of w) ≡ true
 first-in c w = covers_from (slot_block c w) (place_of w) (starts (place_of w)) (within (place_of w) (2 ^ c) (pow_pos c))
   where
@@ -81,7 +81,7 @@ module _ (s : StoreState) (l : Layout) (laid : IsLaidOut s l) (c w : ℕ) (bound
   first-dead : IsDeadSlot s.unique l.pages.owner l.class c w
   first-dead = (subst (AllByRecursion (IsDeadSlot s.unique l.pages.owner l.class c)) next (laid.slots.dead c bound)).0
 
-  -- The block in a dead slot lies in the store's address range.
+  -- A block that fills a dead (empty) slot lies in the store's address range.
   pub dead-placed : IsPlaced s.pages (slot_block c w)
   dead-placed =
       let dead : IsDeadSlot s.unique l.pages.owner l.class c w = first-dead in
@@ -107,7 +107,8 @@ module _ (s : StoreState) (l : Layout) (laid : IsLaidOut s l) (c w : ℕ) (bound
   pub dead-demand : demand (made_unique s (slot_block c w)) ≡ demand s
   dead-demand = ap (demand_of (sizes_in s.regions)) dead-classes
 
-  -- The slots of the layout after an allocation in a dead slot.
+  -- After a unique block is allocated in a dead slot, the live unique blocks and the remaining dead
+  -- slots still satisfy `AreSlots`, the condition on slots.
   pub dead-slots : AreSlots (s.unique ++ slot_block c w ∷ []) s.classes (with_dead l c rest)
   dead-slots = record {
     bound = laid.slots.bound;

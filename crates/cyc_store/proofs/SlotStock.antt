@@ -1,4 +1,4 @@
--- Cutting a free page into slots of a size class preserves the layout of a store.
+-- If a free page is cut into slots of a size class, the store's blocks are still laid out in pages.
 use Rattle.std.proofs.Common.{◌≡◌, ◌≢◌, ℕ, zero, suc, ◌+◌, ◌*◌, ◌^◌, ◌<◌, ◌≤◌, List, [], ◌∷◌, length, None, Some, refl, sym, ap, subst, ◌∙◌, inl, inr, arith, length-set, get_or-set_same, get_or-set_other, zero-add}
 use Rattle.std.specs.Prelude.{◌==◌, if◌then◌else◌, slice_index, set}
 use Rattle.std.specs.List.{AllByRecursion}

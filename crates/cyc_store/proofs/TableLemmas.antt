@@ -1,4 +1,4 @@
--- This file is about the table of pages, one page at a time.
+-- This file is about reading and changing the rows of the page table, one page at a time.
 use Rattle.std.proofs.Common.{◌≡◌, ℕ, zero, suc, ◌+◌, ◌-◌, ◌<◌, ◌≤◌, Bool, List, length, sym, ap, ◌∙◌, inl, inr, arith}
 use Rattle.std.specs.Prelude.{◌⊎◌, ◌&&◌, nat_le, nat_lt, slice_index_or, set}
 use Rattle.std.proofs.lemmas.Bool.{and_right, cond-true, cond-false, le-leb, lt-leb, le-ltb, lt-ltb}
@@ -25,7 +25,7 @@ giving-step rows page (suc left) free first newest count none giving some =
     let less : suc left - 1 ≡ left = omega arith in
     rw less (record { there = giving.there.1; rows_are = giving.rows_are; free_is = giving.free_is })
 
--- The row that is read for an existing page is the row of this page.
+-- Reading the page table at the index of an existing page yields the row of this page.
 pub row_at-read : (rows : List Row) (page : ℕ) (r : Row) → page < length rows → r ≡ slice_index_or rows page r → row_at rows page ≡ r
 row_at-read rows page r inside is = get_or_default rows page (free_row NONE) r inside ∙ sym is
 

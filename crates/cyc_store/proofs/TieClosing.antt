@@ -1,4 +1,4 @@
--- Freeing the chain of a closed region, page by page, preserves the table's layout.
+-- Freeing the chain of a closed region, page by page, preserves the correspondence between the page table and the layout of blocks.
 use Rattle.std.proofs.Common.{◌≡◌, ◌≢◌, ℕ, zero, suc, ◌-◌, ◌<◌, List, [], ◌∷◌, ◌++◌, length, Option, None, Some, refl, sym, ap, subst, ◌∙◌, inl, inr, arith, get_or-set_same, get_or-set_other, length-set}
 use Rattle.std.specs.Prelude.{◌⊎◌, set}
 use Rattle.std.specs.List.{AllByRecursion}
@@ -164,7 +164,7 @@ module _ (t : Table) (lexicals : List ℕ) (classes : ℕ → ClassSlots) (b : B
     ]
   ]
 
-  -- The first page of a region belongs to the region with this page's handle.
+  -- If a region's handle is the one computed from a page's index, then this page is owned by the region.
   root-owned : (p : ℕ) → handle_of_page p ≡ h → l.pages.owner p ≡ Some h
   root-owned p same =
       let root : rooted.root ≡ p = halves rooted.root p (sym rooted.handle ∙ (handle-is ∙ sym same)) in

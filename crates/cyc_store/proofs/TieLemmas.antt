@@ -133,7 +133,8 @@ module _ (t : Table) (lexicals : List ℕ) (classes : ℕ → ClassSlots) (b : B
 
 -- ---- the effect of `draw`
 
--- After a page is taken, all parts of the table except the free pages are unchanged.
+-- After a page is taken, the page table's rows, words and flags read as before; only the number of
+-- used pages and the first free page differ.
 pub drawn-table : (old new : PageTable) (page : ℕ) → Draws old new page
     → table_of new ≡ record (table_of old) { count = length new.rows.items; free = new.free }
 drawn-table old new page draws =

@@ -1,4 +1,4 @@
--- Allocating a block in a region preserves the table's layout.
+-- Allocating a block in a region preserves the correspondence between the page table and the layout of blocks.
 use Rattle.std.proofs.Common.{◌≡◌, ◌≢◌, ℕ, suc, ◌+◌, ◌<◌, ◌≤◌, List, [], ◌∷◌, length, None, Some, refl, sym, ap, subst, ◌∙◌, inl, inr, arith}
 use Rattle.std.specs.Prelude.{if◌then◌else◌}
 use Rattle.std.specs.List.{AllByRecursion}
@@ -98,7 +98,7 @@ module _ (t : Table) (lexicals : List ℕ) (classes : ℕ → ClassSlots) (b : B
     moves : mark_of (with_block block r) ≡ record { pages = (mark_of r).pages; filled = mark }
     moves = mark-made r block ∙ mark-stays (mark_of r) size room
 
-    -- The region that contains the new block is represented in the table.
+    -- After an allocation, the page table still represents the region that contains the new block.
     stays-rooted : IsRooted now.row (filled_to l.pages page mark) (with_block block r)
     stays-rooted = record {
       root = rooted.root;
@@ -218,7 +218,8 @@ module _ (t : Table) (lexicals : List ℕ) (classes : ℕ → ClassSlots) (b : B
   half-old : (p : ℕ) → (p ≡ page → ⊥) → half.row p ≡ t.row p
   half-old p other = when_other p page (next_row size rooted.chain.newest.page) (t.row p) other
 
-  -- The second of two row writes changes only the entries about the region in the row of the region's first page.
+  -- An allocation in a new page writes two rows of the page table. The second write changes only the entries
+  -- about the region in the row of the region's first page.
   whole-next : (p : ℕ) → (whole.row p).next ≡ (half.row p).next
   whole-next p = elim (cases_eq p rooted.root) [
     | inl here ↦ ap (λ (x : Row). x.next) (when_equal p rooted.root (longer_row (half.row rooted.root) page) (half.row p) here) ∙ ap (λ n. (half.row n).next) (sym here)

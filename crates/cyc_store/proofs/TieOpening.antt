@@ -1,4 +1,4 @@
--- Making a taken page the first page of a new region preserves the table's layout.
+-- Making a taken page the first page of a new region preserves the correspondence between the page table and the layout of blocks.
 use Rattle.std.proofs.Common.{◌≡◌, ◌≢◌, ℕ, ◌-◌, ◌<◌, Bool, false, true, List, [], ◌∷◌, ◌++◌, None, Some, refl, sym, ap, subst, ◌∙◌, inl, inr, arith}
 use Rattle.std.specs.Prelude.{◌==◌, if◌then◌else◌}
 use Rattle.std.specs.List.{AllByRecursion}
@@ -27,7 +27,7 @@ first_row sort page = record { role = role_of_sort sort; filled = 0; next = NONE
 abbrev pub with_row : Table → (page : ℕ) → Row → Table
 with_row t page r = record t { row = λ (other : ℕ). if other == page then r else t.row other }
 
--- The list of lexical regions after one more region is opened.
+-- The handles that the opening of a region of this sort appends to the list of lexical regions: its own if it is lexical, otherwise none.
 abbrev pub lexicals_with : Sort → (handle : ℕ) → List ℕ
 lexicals_with Heap handle = []
 lexicals_with Lexical handle = handle ∷ []
@@ -59,7 +59,7 @@ pub owned-away : (pages : Pages) (page h : ℕ) → pages.owner page ≡ None �
 owned-away pages page h none [] all = tt
 owned-away pages page h none (x ∷ xs) all = (λ e. never_none_and_some none (ap pages.owner e ∙ all.0), owned-away pages page h none xs all.1)
 
--- Taking a free page leaves the representation of every other region unchanged.
+-- Taking a free page does not affect how the page table represents every other region.
 pub rooted-drawn : (row : ℕ → Row) (pages : Pages) (page h : ℕ) (new : Row) (r : Home) → pages.owner page ≡ None → (r.handle ≡ h → ⊥) → IsRooted row pages r
     → IsRooted (λ (other : ℕ). if other == page then new else row other) (drawn pages page h) r
 rooted-drawn row pages page h new r none other rooted = record {
@@ -84,7 +84,7 @@ rooted-drawn row pages page h new r none other rooted = record {
 
 module _ (t : Table) (lexicals : List ℕ) (classes : ℕ → ClassSlots) (b : Blocks) (l : Layout) (tied : IsTied t lexicals classes b l) (page : ℕ) (none : l.pages.owner page ≡ None)
     (away : AllByRecursion (λ x. page ≢ x) l.free) (there : page < t.count) where
-  -- No region has the handle of the taken page.
+  -- No region has the handle that is computed from the taken page's index.
   pub fresh-handle : lookup handle_of b.regions (handle_of_page page) ≡ None
   fresh-handle = elim (none_or_some (lookup handle_of b.regions (handle_of_page page))) [
     | inl nothing ↦ nothing

@@ -1,4 +1,5 @@
--- Filling a slot, freeing a unique block, and cutting a taken page into slots preserve the table's layout.
+-- Filling a slot, freeing a unique block, and cutting a taken page into slots preserve the correspondence
+-- between the page table and the layout of blocks.
 use Rattle.std.proofs.Common.{◌≡◌, ◌≢◌, ℕ, ◌+◌, ◌*◌, ◌/◌, ◌^◌, ◌<◌, ◌≤◌, Bool, List, [], None, Some, refl, sym, ap, subst, ◌∙◌, inl, inr, arith}
 use Rattle.std.specs.Prelude.{◌==◌, ◌⊎◌, if◌then◌else◌, is_some}
 use Rattle.std.specs.List.{AllByRecursion}
@@ -76,7 +77,7 @@ module _ (t : Table) (lexicals : List ℕ) (classes : ℕ → ClassSlots) (b : B
       first : (m n k : ℕ) → m ≤ n → n < k → m < k
       first m n k low high = omega (arith, low, high)
 
-  -- If the slot that is computed for a word begins at the given slot's first word, then the word belongs to the given slot.
+  -- If the slot that is computed for a word begins at the given slot's first word, then the given slot contains the word.
   not-out : (p n : ℕ) → n < 1024 → PAGE_WORDS * p + n / 2 ^ l.class p * 2 ^ l.class p ≡ word → (PAGE_WORDS * p + n < word) ⊎ (word + 2 ^ class ≤ PAGE_WORDS * p + n) → ⊥
   not-out p n few begins (inl below) = clash (PAGE_WORDS * p) (n / 2 ^ l.class p * 2 ^ l.class p) n word begins (div-mul-le_self n (2 ^ l.class p)) below
     where

@@ -19,7 +19,7 @@ pub record HasChoice (s : StoreState) (call : Call) : Type 0 where
   pub allowed : IsAllowed s call choice
   pub ordered : IsOrdered (served s call choice)
 
--- Says that there is one exchange for each of these calls, in order.
+-- Says that there is one exchange (a call with its answer) for each of these calls, in order.
 abbrev pub AreServices : List Call → List Exchange → Type 0
 AreServices [] [] = Unit {0}
 AreServices [] (e ∷ es) = ⊥

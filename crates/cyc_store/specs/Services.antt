@@ -24,12 +24,12 @@ pub data Answer : Type 0 where
   Refused : Refusal → Answer
   Done : Answer
   Opened : (handle : ℕ) → Answer
-  -- The number `mark` is the number of lexical regions that were open before.
+  -- In the answer to the opening of a lexical region, `mark` is the number of lexical regions that were open before.
   OpenedLexical : (handle mark : ℕ) → Answer
   Allocated : (address : ℕ) → Answer
 
--- The choice of a store: the handle of a region, the address of a block, and the value of every word afterwards. Each call uses only the
--- parts that it needs.
+-- The choice of a store: the handle of a region, the address of a block, and the value of every word afterwards. Only opening a region
+-- uses the handle, and only allocating a block uses the address.
 pub record Choice : Type 0 where
   pub handle : ℕ
   pub address : ℕ

@@ -6,7 +6,7 @@ use Rattle.cyc_store.specs.State.{AreDistinct, AreWords, Block, address_of, Home
 use Rattle.cyc_store.specs.Services.{IsPlaced}
 
 -- Says that each handle names one region, and that a block is found at each of its addresses. No two blocks overlap, because each
--- address belongs to at most one block.
+-- address lies in at most one block.
 pub record AreSound (pages : ℕ) (rs : List Home) : Type 0 where
   pub handles : AreDistinct handle_of rs
   pub apart : (handle first address : ℕ) (b : Block) → block_at rs handle first ≡ Some b → covers b address ≡ true

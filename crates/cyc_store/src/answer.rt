@@ -1,7 +1,7 @@
 //! This file defines the results of a store that refuses a call.
 
 /// The reason why a region was not opened, or why a block was not allocated. If several reasons hold, then the first
-/// one in this order is returned.
+/// one in the order of this type's variants is returned.
 #[derive(Clone, Copy, Debug, PartialEq, Eq)]
 pub enum No {
     /// The handle names no open region.

@@ -33,8 +33,8 @@ pub fn blocks_stand_apart()
         → word_at s (b.address + 4 * i) ≡ Some (s.memory (b.address + 4 * i)) }
 {}
 
-/// An allocated block is live, with the requested words; a freed block is not live, and the handle of a closed dynamic region
-/// names no region.
+/// An allocated block is live, with the requested size or, if it is a unique block, the size of its class. A freed block is
+/// not live, and the handle of a closed dynamic region names no region.
 pub fn blocks_come_and_go()
     ensures made { (s t : StoreState) (handle words address : ℕ) → IsSound s → Serves s (Allocate handle words) (Allocated address) t
         → block_at (homes t) handle address ≡ Some (record { address = address; size = room handle words }) }
@@ -47,7 +47,7 @@ pub fn refusals_change_nothing()
     ensures { (s t : StoreState) (call : Call) (why : Refusal) → Serves s call (Refused why) t → (refusal s call ≡ Some why) × (t ≡ s) }
 {}
 
-/// A call is refused as full exactly if it would need more pages than the store has, for every choice of the store.
+/// A call is refused for lack of pages exactly if it would need more pages than the store has, for every choice of the store.
 pub fn full_goes_by_demand()
     ensures full { (s : StoreState) (call : Call) → refusal s call ≡ Some Full → s.pages < demand (served s call (any_choice s)) }
     ensures fits { (s : StoreState) (call : Call) → IsSound s → refusal s call ≡ None → demand (served s call (any_choice s)) ≤ s.pages }

@@ -8,7 +8,7 @@ use std::alloc::{AllocError, Global};
 /// The role of a page in the store.
 #[derive(Clone, Copy)]
 pub enum Role {
-    /// The page is free, or it is a page of a region other than the first.
+    /// The page is free, or it is a page of a region but not the region's first page.
     Rest,
     /// The first page of the heap.
     Heap,
@@ -26,7 +26,7 @@ pub struct Row {
     pub role: Role,
     /// For a page of a region, the number of its filled words.
     pub filled: u32,
-    /// The next page in the chain to which this page belongs: an older page of its region, or a free page.
+    /// The page to which this page links: the next older page of its region or, if this page is free, another free page.
     pub next: u32,
     /// For a region's first page, the region's newest page.
     pub newest: u32,
@@ -46,7 +46,7 @@ pub struct ClassSlots {
     pub left: u32,
 }
 
-/// The value that stands for no page and no slot.
+/// The value that, in place of an index, stands for no page or no slot.
 pub const NONE: u32 = 0xffff_ffff;
 
 /// The page table's row for an empty page.
@@ -64,7 +64,7 @@ pub struct PageTable {
     /// The largest number of pages that the table may have.
     pub most: u32,
     pub words: Vec<u32>,
-    /// For each word of all pages, a mark that tells if the word belongs to a live unique block.
+    /// For each word of all pages, a flag that is true if the word is in a live unique block.
     pub live: Vec<bool>,
     pub rows: Vec<Row>,
     /// The first page of the chain of free pages.
@@ -139,7 +139,7 @@ impl PageTable {
         }
     }
 
-    /// Frees a chain of `count` pages.
+    /// Frees `count` linked pages of a region, from its newest page on.
     pub fn give_back(&mut self, newest: u32, count: u32)
         requires { AreThere self.old.rows.items newest count self.old.free }
         ensures rows { self.new.rows.items ≡ given_rows self.old.rows.items newest count self.old.free }

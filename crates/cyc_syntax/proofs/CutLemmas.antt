@@ -10,7 +10,7 @@ use Rattle.cyc_syntax.proofs.PieceLemmas.{piece_starts, one_piece}
 pub piece_nonempty : (m : Piece) → Spells m [] → ⊥
 piece_nonempty m spelled = piece_starts m [] spelled
 
--- Two pieces that can be read at one position of a text are equal and have equal bytes.
+-- At one position of a text at most one token, space or comment can be read, with only one byte string.
 pub one_part : (p q : Part) (after other : List ℕ) → p.bytes ++ after ≡ q.bytes ++ other
     → IsRead p.piece p.bytes after → IsRead q.piece q.bytes other → (p ≡ q) × (after ≡ other)
 one_part p q after other e read also =
@@ -20,7 +20,8 @@ one_part p q after other e read also =
     let piece = one_piece p.piece q.piece q.bytes (subst (Spells p.piece) bytes.0 read.spelled) also.spelled in
     ((λ i. record { piece = piece i; bytes = bytes.0 i }), bytes.1)
 
--- `GoesOn` says that the list of text parts `qs` extends the list `ps`: the further parts cut the text that `ps` leaves.
+-- `GoesOn` says that the list `qs` of tokens, spaces and comments extends the list `ps`: its further elements divide the
+-- text that `ps` leaves over.
 abbrev pub GoesOn : List Part → List Part → List ℕ → List ℕ → Type 0
 GoesOn ps qs r s = (more : List Part) × (qs ≡ ps ++ more) × IsCut more r s
 
@@ -35,7 +36,8 @@ cuts_meet (p ∷ ps) (q ∷ qs) text r s cut also =
     (λ x. inr (x.0, (λ i. same.0 i ∷ x.1 i), x.2))
     (cuts_meet ps qs cut.0 r s cut.4 (subst (λ l. IsCut qs l s) (sym same.1) also.4))
 
--- A cut (division into tokens, spaces and comments) that has reached the end of the text cannot be extended by any part.
+-- A cut (division into tokens, spaces and comments) that has reached the end of the text cannot be extended by any
+-- further token, space or comment.
 pub no_more : (more : List Part) (s : List ℕ) → IsCut more [] s → more ≡ []
 no_more [] s cut = refl
 no_more (p ∷ ps) s cut = absurd (none p.bytes cut.1 cut.2.spelled)

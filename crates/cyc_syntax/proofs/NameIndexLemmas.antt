@@ -182,8 +182,8 @@ others_kept : {X : Type 0} (eq : X → X → Bool) (test : X → Bool) (old new 
 unfolding KeepsOthers
 others_kept eq test old new keeps = keeps
 
--- The map of other texts holds texts whose key an earlier text has. After an insertion, a lookup
--- finds the inserted number for the inserted text and the old result for every other text.
+-- The map of other texts holds texts whose key an earlier text has. After an insertion, a lookup finds the inserted number for the inserted
+-- text and the old result for every other text.
 pub others_after : (m n : BTreeMap (Vec ℕ Global) ℕ) (v : Vec ℕ Global) (number : ℕ) → tree.Updates (λ x y. slice_cmp nat_cmp x.items y.items) m n v (Some number)
     → (t : List ℕ) → other_in n t ≡ cond (bytes_eq v.items t) (Some number) (other_in m t)
 others_after m n v number updates t =

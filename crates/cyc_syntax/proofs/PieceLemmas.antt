@@ -13,7 +13,7 @@ use Rattle.cyc_syntax.specs.declared.tokens.Sign.TheVariants as signs
 use Rattle.cyc_syntax.specs.Tokens.{Identifier, RegionName, Number, Character, Word, Mark}
 use Rattle.cyc_syntax.specs.Spelling.{is_between, is_digit, is_letter, is_space, keyword_text, sign_text, is_name, is_decimal, is_hexadecimal, number_in, escaped, HasNoClose, Piece, Lexeme, Space, Comment, OpenComment, Spells}
 
--- The classes of first bytes, by the pieces that can begin with them.
+-- The classes of first bytes, by the tokens, spaces and comments that can begin with them.
 pub data Start : Type 0 where
   AtName : Start
   AtNumber : Start
@@ -164,7 +164,7 @@ space_starts b space =
     ∙ cond-false (is_digit b) _ _ (space_no_digit b space)
     ∙ cond-true (is_space b) _ _ space
 
--- The first byte of a piece is in the class that `piece_start` assigns to this piece.
+-- The first byte of a token, space or comment is in the class that `piece_start` assigns to it.
 pub piece_starts : (m : Piece) (bytes : List ℕ) → Spells m bytes → starts_as bytes (piece_start m)
 piece_starts (Lexeme (Identifier name)) bytes h = rw h.0 (name_starts name h.1)
 piece_starts (Lexeme (RegionName name)) bytes h = rw h.0 refl
@@ -304,7 +304,7 @@ piece_of-sign_text signs.Colon = refl
 piece_of-sign_text signs.At = refl
 piece_of-sign_text signs.Question = refl
 
--- The piece that bytes spell is determined by cases on the class of their first byte.
+-- The token, space or comment that a byte string spells is determined by cases on the class of its first byte.
 piece_of-at : (bytes : List ℕ) (s : Start) (P : Piece) → starts_as bytes s
     → ((b : ℕ) (bs : List ℕ) → bytes ≡ b ∷ bs → piece_at s b bs ≡ P) → piece_of bytes ≡ P
 piece_of-at [] s P start is = absurd start

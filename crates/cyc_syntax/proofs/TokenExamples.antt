@@ -28,7 +28,7 @@ keyword = refl
 places : (line_after (codes "ab" ++ (10 ∷ codes "c")) ≡ 2) × (column_after (codes "ab" ++ (10 ∷ codes "c")) ≡ 2)
 places = (refl, refl)
 
--- Example: the parts of the text `int x;`, and the tokens among these parts.
+-- Example: the tokens and spaces of which the text `int x;` consists, and the list of its tokens.
 parts : List Part
 parts =
     record { piece = Lexeme (Word words.Int); bytes = codes "int" }

@@ -1,4 +1,4 @@
--- The number of leaves that spell a tree (its yield) is the weight of the tree.
+-- The number of leaves that spell a syntax tree (its yield) equals the tree's weight, which counts the tree's tokens by recursion.
 use Rattle.std.proofs.Common.{◌≡◌, ℕ, suc, ◌+◌, Bool, true, false, List, [], ◌∷◌, length, Option, Some, None, refl, arith, length-append}
 use Rattle.cyc_syntax.specs.Symbols.{Place, Symbol}
 use Rattle.cyc_syntax.specs.Grammar.{IsSpelled, HasTree}
@@ -104,7 +104,7 @@ base-length d p (Struct s rs) = omega (arith, region_list-length d rs)
 base-length d p (Handle r) = refl
 base-length d p (Key r) = refl
 
--- The weight of a type is the sum of the weights of its base type and its pointer signs.
+-- The weight (number of tokens) of a type is the sum of the weights of its base type and its pointer signs.
 pub parts-length : (d : ℕ) (t : WrittenType) → length (yields.base_type d t.place t.base) + length (yields.marks d t.marks) ≡ type_weight t
 parts-length d t = omega (arith, base-length d t.place t.base, marks-length d t.marks)
 

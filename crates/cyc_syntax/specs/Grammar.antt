@@ -1,6 +1,6 @@
--- The grammar relates a list of symbols to its syntax trees. `Yields` contains the productions of the grammar. The conditions on the parts
--- of a tree, and the definition of when a yield spells a tree, are in this file. (The grammar is the Cyclone manual's; its operator levels
--- and the binding of `else` are C's; the limits are this project's own choice.)
+-- The grammar relates a list of symbols to its syntax trees. `Yields` contains the productions of the grammar. The conditions on the
+-- subtrees of a tree, and the definition of when a yield spells a tree, are in this file. (The grammar is the Cyclone manual's; its
+-- operator levels and the binding of `else` are C's; the limits are this project's own choice.)
 use Rattle.std.specs.Prelude.{◌≡◌, ℕ, suc, ◌≤◌, ◌<◌, Bool, true, false, List, [], ◌∷◌, Option}
 use Rattle.std.specs.List.{AllByRecursion}
 use Rattle.std.specs.Option.{IfSome}
@@ -66,8 +66,8 @@ is_primary (Binary e os) = false
 is_primary (Assign a b) = false
 
 abbrev mutual
-  -- `IsExpression` says that an expression has at most this precedence level, and that each of its parts
-  -- satisfies the condition of its production.
+  -- `IsExpression` says that an expression has at most this precedence level, and that each of its subtrees satisfies the condition of its
+  -- production.
   pub IsExpression : ℕ → Expression → Type 0
   IsExpression most (Number p n) = Unit {0}
   IsExpression most (Character p c) = Unit {0}
@@ -85,7 +85,7 @@ abbrev mutual
   IsExpression most (Prefixed p o e) = IsExpression unary_level e
   IsExpression most (New p i) = IsInitial i
   IsExpression most (RegionNew p h i) = IsExpression assignment_level h × IsInitial i
-  -- The operators of a chain all have one precedence level, and its operands have lower levels, which bind tighter.
+  -- The operators in one `Binary` expression all have one precedence level, and its operands have lower levels, which bind tighter.
   IsExpression most (Binary e os) = (below : ℕ) × (below < most) × (below < binary_level) × IsExpression below e × IsSomeOperation os × AreOperations below os
   IsExpression most (Assign a b) = (assignment_level ≤ most) × IsExpression binary_level a × IsExpression assignment_level b
 
@@ -126,7 +126,8 @@ abbrev mutual
 abbrev pub IsExpressionOrNone : Option Expression → Type 0
 IsExpressionOrNone v = IfSome v (λ e. IsExpression assignment_level e)
 
--- Returns true if a statement ends in an `if` without an `else`. An `else` after such a statement would belong to this inner `if`.
+-- Returns true if a statement ends in an `if` without an `else`. An `else` after such a statement would be read as the `else` of
+-- this inner `if`.
 abbrev pub wants_else : Statement → Bool
 wants_else (Block b) = false
 wants_else (Labelled l b) = false

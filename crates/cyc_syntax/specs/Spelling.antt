@@ -176,8 +176,8 @@ HasNoClose bytes = (before after : List ℕ) → bytes ≢ before ++ (codes "*/"
 abbrev pub IsLineComment : List ℕ → Type 0
 IsLineComment bytes = (body : List ℕ) × (bytes ≡ codes "//" ++ body) × (list_any is_line_feed body ≡ false)
 
--- `IsBlockComment` says that bytes are a block comment, from `/*` up to the first `*/`. Block
--- comments do not nest, and `/*/` is not closed.
+-- `IsBlockComment` says that bytes are a block comment, from `/*` up to the first `*/`. Block comments do not nest, and `/*/` is not
+-- closed.
 abbrev pub IsBlockComment : List ℕ → Type 0
 IsBlockComment bytes = (body : List ℕ) × (bytes ≡ codes "/*" ++ (body ++ codes "*/")) × HasNoClose (body ++ codes "*")
 

@@ -6,7 +6,7 @@ abbrev pub sum_of : {A : Type 0} → (A → ℕ) → List A → ℕ
 sum_of weight [] = 0
 sum_of weight (x ∷ xs) = weight x + sum_of weight xs
 
--- Returns the weight of a list with a comma before each element except the first.
+-- Returns the weight (number of tokens) of a list with a comma before each element except the first.
 abbrev pub separated_weight : {A : Type 0} → (A → ℕ) → List A → ℕ
 separated_weight weight [] = 0
 separated_weight weight (x ∷ xs) = weight x + sum_of (λ y. 1 + weight y) xs

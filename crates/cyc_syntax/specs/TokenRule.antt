@@ -26,8 +26,8 @@ pub record Part : Type 0 where
   pub piece : Piece
   pub bytes : List ℕ
 
--- `IsCut` says that the text is the concatenation of the parts and a rest, and that each part is the longest piece at its position.
--- No part is an open comment.
+-- `IsCut` says that the text is the concatenation of a list of pieces (tokens, spaces and comments) and a rest. Each piece is the
+-- longest at its position, and no piece is an unclosed comment.
 abbrev pub IsCut : List Part → List ℕ → List ℕ → Type 0
 IsCut [] text rest = text ≡ rest
 IsCut (p ∷ ps) text rest =
@@ -37,14 +37,14 @@ abbrev pub bytes_of : List Part → List ℕ
 bytes_of [] = []
 bytes_of (p ∷ ps) = p.bytes ++ bytes_of ps
 
--- Returns the token of a part that starts after the bytes `front`, or no token if the part is a space or a comment.
+-- Returns the token that starts after the bytes `front`, or no token if a space or a comment starts there.
 abbrev pub part_tokens : List ℕ → Piece → List Token
 part_tokens front (Lexeme k) = record { kind = k; line = line_after front; column = column_after front } ∷ []
 part_tokens front Space = []
 part_tokens front Comment = []
 part_tokens front OpenComment = []
 
--- Returns the tokens among the parts with their source positions, if the bytes `front` precede the parts.
+-- Returns the tokens in a list of tokens, spaces and comments, with their source positions, if the bytes `front` precede the list.
 abbrev pub tokens_of : List ℕ → List Part → List Token
 tokens_of front [] = []
 tokens_of front (p ∷ ps) = part_tokens front p.piece ++ tokens_of (front ++ p.bytes) ps

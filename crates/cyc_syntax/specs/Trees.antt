@@ -80,7 +80,7 @@ mutual
     ThenIndex : Expression → Postfixes → Postfixes
     ThenField : Named → Postfixes → Postfixes
 
-  -- Each operator of a chain, with its source position and its right operand.
+  -- The operators that follow the first operand of a `Binary` expression, each with its source position and its right operand.
   pub data Operations : Type 0 where
     NoOperations : Operations
     ThenOperation : BinaryOperator → Place → Expression → Operations → Operations

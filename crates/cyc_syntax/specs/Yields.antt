@@ -7,8 +7,9 @@
 --   contains it, where the operators and keywords are the prefix operators, `new`, `rnew`, `=`, `if`, `else`, `while` and `try`. A
 --   condition is nested only in its   brackets, and the statement after `else` only in the `else`. The handle and the value of `rnew` are
 --   nested in the `rnew`, the exception   after `throw new` in the `new`;
--- * its item: the number, from 1, of the list item that the leaf begins, or of the operator, postfix or mark in its chain. The lists are
---   those of fields, constructors, parameters, arguments, regions and constraints. All other leaves have the item number 0.
+-- * its item: the number, from 1, of the list element that the leaf begins, or of the operator, postfix operator or pointer sign in its
+-- row. The lists are those of fields, constructors, parameters, arguments, regions and constraints. All other leaves have the item
+-- number 0.
 use Rattle.std.specs.Prelude.{ℕ, suc, Bool, true, false, List, [], ◌∷◌, ◌++◌, Option, Some, None}
 use Rattle.cyc_syntax.specs.declared.tokens.Keyword.{Keyword}
 use Rattle.cyc_syntax.specs.declared.tokens.Keyword.TheVariants as words
@@ -43,7 +44,7 @@ infixr 10 ◌⨾◌
 abbrev pub ◌⨾◌ : Yield → Yield → Yield
 first ⨾ second = first ++ second
 
--- Returns the yield of one token at a nesting depth, whose source position the tree stores.
+-- Returns the yield (list of leaves) that consists of one token at a nesting depth; the tree stores the token's source position.
 abbrev pub at : ℕ → Terminal → Place → Yield
 at d t p = record { terminal = t; place = Some p; nesting = d; item = 0 } ∷ []
 
@@ -59,7 +60,7 @@ identifier d x = at d (Identifier x.name) x.place
 abbrev pub region_name : ℕ → Named → Yield
 region_name d r = at d (RegionName r.name) r.place
 
--- Returns the yield whose first leaf has this item number (its index, from 1, in a list or a chain of operators).
+-- Returns the yield (list of leaves) after its first leaf gets this item number: an index, from 1, in a list or among operators in a row.
 abbrev pub item_number : ℕ → Yield → Yield
 item_number i [] = []
 item_number i (leaf ∷ leaves) = record leaf { item = i } ∷ leaves
@@ -70,12 +71,12 @@ optional yield (Some x) = yield x
 
 -- ---- lists with numbered items
 
--- Returns the yields of a list's elements one after the other, numbered from `i` on.
+-- Returns the yields (lists of leaves) of a list's elements one after the other; the elements get item numbers from `i` on.
 abbrev pub each : {A : Type 0} → (A → Yield) → ℕ → List A → Yield
 each yield i [] = []
 each yield i (x ∷ xs) = item_number i (yield x) ⨾ each yield (suc i) xs
 
--- Returns the yields of a list's elements, each preceded by a comma, numbered from `i` on.
+-- Returns the yields (lists of leaves) of a list's elements, each preceded by a comma; the elements get item numbers from `i` on.
 abbrev pub more : {A : Type 0} → (A → Yield) → ℕ → ℕ → List A → Yield
 more yield d i [] = []
 more yield d i (x ∷ xs) = sign d signs.Comma ⨾ item_number i (yield x) ⨾ more yield d (suc i) xs

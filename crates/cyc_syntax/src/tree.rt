@@ -1,8 +1,8 @@
 //! Abstract syntax trees, as the parser builds them from a list of tokens.
 //!
-//! A chain of operators of one precedence level is one node with a list, and so is a chain of postfix operators. The depth of a tree is
+//! Consecutive operators of one precedence level are one node with a list, and so are consecutive postfix operators. The depth of a tree is
 //! at most the nesting of its text times the levels of the grammar, whatever the number of its tokens. Brackets are kept in the tree. A
-//! node stores the source position of each token that a fault may name; the position of an expression is that of its leftmost part.
+//! node stores the source position of each token that a fault may name; the position of an expression is that of its leftmost token.
 
 use crate::{Name, Names};
 use cyc_words::Span;
@@ -158,7 +158,7 @@ pub enum Expr {
         region: Box<Expr>,
         value: Box<Initial>,
     },
-    /// Operands joined by operators of one precedence level, which associate to the left. A chain has at least one operator.
+    /// Operands joined by operators of one precedence level, which associate to the left. There is at least one operator.
     Binary {
         first: Box<Expr>,
         rest: Vec<Operation>,
@@ -169,7 +169,7 @@ pub enum Expr {
     },
 }
 
-/// A binary operator of a chain, with its right operand.
+/// A binary operator that follows the first operand of a `Binary` expression, with its right operand.
 #[cycle(expression)]
 #[derive(Drop)]
 pub struct Operation {
@@ -183,7 +183,7 @@ pub struct Operation {
 #[derive(Drop)]
 pub enum Postfix {
     Index { index: Expr },
-    /// The postfix `->` with the name of a field.
+    /// The postfix operator `->` with the name of a field.
     Field { name: Ident },
 }
 

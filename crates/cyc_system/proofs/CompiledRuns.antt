@@ -1,4 +1,4 @@
--- A run of a compiled file, between a reader and a writer, is compared with the limited run of its source program.
+-- A run of a compiled file, between a reader and a writer, is compared with its source program's run within limits of pages and calls.
 use Rattle.std.proofs.Common.{◌≡◌, ℕ, refl, suc, zero, ◌+◌, ◌-◌, ◌*◌, ◌≤◌, ◌<◌, List, [], Bool, false, Option, Some, None, Result, Ok, Err, sym, ap, subst, ◌∙◌, arith, inl, inr}
 use Rattle.std.specs.Prelude.{MatchBool}
 use Rattle.std.specs.List.{AllByRecursion}

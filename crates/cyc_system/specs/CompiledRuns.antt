@@ -1,4 +1,4 @@
--- If a file does what a program means, the output, the remaining input and the result of `run` are those of the program's limited run.
+-- If a file does what a program means, the output, remaining input and result of `run` are those of the program's run within its limits.
 -- The results of compiling and running are described in terms of the source only. The form of these results is this project's own choice.
 use Rattle.std.specs.Prelude.{◌≡◌, ℕ, ◌+◌, ◌*◌, ◌≤◌, List, Some, Result, Ok, Err}
 use Rattle.std.specs.Io.KnownBytes.{Appends}
@@ -33,9 +33,9 @@ IsAsFar s seen stop =
     ComesTo (seen_of s) seen
     × ((ending : Ending) → status_of s ≡ HasEnded ending → (end : End) × (stop ≡ stops.End end) × (ending_of end ≡ Some ending))
 
--- `AnswersAs` describes the result for this output and remaining input. With `each` instructions for each step of the program, and as
--- many before the first step, a run is as far as the program. The result is never that the bytes are no image or that the machine has no
--- memory for it.
+-- `AnswersAs` describes the result for this output and remaining input. A run that executes `each` instructions for each step of the
+-- program, and as many before the first step, comes as far as the program. The result is never that the bytes are no image or that the
+-- machine has no memory for it.
 abbrev pub AnswersAs : Program → Bounds → (input : List ℕ) → (each budget : ℕ) → Seen → Result Report RunFault → Type 0
 AnswersAs p limits input each budget seen (Ok report) =
     IsEndOf p limits input seen report.stop
@@ -46,8 +46,9 @@ AnswersAs p limits input each budget seen (Err Memory) = Unit {0}
 AnswersAs p limits input each budget seen (Err (Elf f)) = ⊥
 AnswersAs p limits input each budget seen (Err (Load f)) = ⊥
 
--- `RunsAs` says that the output, the remaining input and the result for this input are those of the program's limited run. Whatever the
--- result, the bytes written and those left in the reader are the program's output and remaining input after some number of its steps.
+-- `RunsAs` says that the output, the remaining input and the result for this input are those of the program's run within limits of
+-- pages and calls. Whatever the result, the bytes written and those left in the reader are the program's output and remaining input
+-- after some number of its steps.
 pub record RunsAs (p : Program) (limits : Bounds) (input : List ℕ) (each budget : ℕ) (old new : Devices) (result : Result Report RunFault) : Type 0 where
   pub output : List ℕ
   pub rest : List ℕ

@@ -23,8 +23,8 @@ pub use cyc_front::laws::{accepted_or_refused, accepted_programs_are_sound};
 pub use cyc_image::laws::note_limits_are_allowed;
 
 /// The law of `compile` followed by `run`, or by `run_with` over any new store. For a compiled text, the output, the input read and the
-/// result are those of the limited run of its program, for all limits, inputs and budgets. A budget of (n + 1) * T, T being the image's
-/// code words, lets the run come as far as the program in n steps.
+/// result are those of its program's run within limits, for all limits, inputs and budgets. A budget of (n + 1) * T, T being the
+/// image's code words, lets the run come as far as the program in n steps.
 pub fn compiled_programs_run()
     ensures anew { (text : List ℕ) (p : Program) (file : List ℕ) → IsCompiledText text p → (is : IsImageOf p file)
         → (limits : Bounds) (input : List ℕ) → AreAllowed limits.pages limits.calls → AllByRecursion (λ b. b < 256) input

@@ -74,7 +74,7 @@ fn passes_last_serial(store: &mut PageStore) -> Option<bool> {
     Some(first && second && third && gone && open && held)
 }
 
-/// Returns true if a new store still works after its last serial number.
+/// Returns true if a new store still works after its serial numbers have reached their last value.
 fn stays_dead(alloc: Global, pages: u32) -> Option<bool> {
     passes_last_serial(&mut paged_of(alloc, pages)?)
 }

@@ -107,7 +107,8 @@ module _ (w : List (Region × Region)) (live : List Region) where
   leads-above [] a b h = h
   leads-above (s ∷ e) a b h = or_left (leads w live e a b) _ (leads-above e a b h)
 
-  -- if a path from a to b crosses the newest scope, a reaches a live region, live regions outlive the scope's region, which reaches b
+  -- A path from region a to region b over the newest scope leads from a to a live region, and from the scope's region to b. On such a
+  -- path, the live regions outlive the scope's region.
   pub newest-parts : (s : Scope) (e : List Scope) (a b : Region) →
       (is_outlived_by_live s.kind && above_one_of w (live_regions live e) a && leads w live e s.region b) ≡ true →
       (is_outlived_by_live s.kind ≡ true) × (above_one_of w (live_regions live e) a ≡ true) × (leads w live e s.region b ≡ true)
@@ -124,7 +125,7 @@ module _ (w : List (Region × Region)) (live : List Region) where
       (and_from (is_outlived_by_live s.kind && above_one_of w (live_regions live e) a) (leads w live e s.region b)
       (and_from (is_outlived_by_live s.kind) (above_one_of w (live_regions live e) a) k u) r)
 
-  -- a path between two regions either uses only the function's constraints, or its first region has a path of constraints to a live region
+  -- a path between two regions either uses only the function's constraints, or constraints lead from its first region to a live region
   pub leads-cases : (opened : List Scope) (a b : Region) → leads w live opened a b ≡ true →
       (above w a b ≡ true) ⊎ (above_one_of w (live_regions live opened) a ≡ true)
   leads-cases [] a b h = inl h

@@ -12,7 +12,7 @@ use Rattle.cyc_types.specs.typing.Scopes.{region_among}
 use Rattle.cyc_types.specs.typing.DeclarationRules.{region_numbers}
 use Rattle.cyc_types.specs.inside.Names.{names_of, Finds}
 
--- the name of the oldest binding is a valid index of the table of region names
+-- the number that identifies the name of the oldest binding is a valid index of the table of region names
 pub in_range : (table : List (Option Region)) (bs old : List Binding) (b : Binding) → Finds table old → old ≡ bs ++ b ∷ [] → b.name < length table
 in_range table bs old b f e = get_or_within table b.name b.region (f.0 b.name ∙ ap (λ ns. region_among ns b.name) front ∙ ap (λ t. cond t (Some b.region) (region_among (names_of bs) b.name)) (eq-eqb b.name b.name refl))
   where

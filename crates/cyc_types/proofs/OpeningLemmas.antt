@@ -120,7 +120,7 @@ module _ (w : List (Region × Region)) (live : List Region) (openings : List ℕ
             ]
       ])
 
-  -- the scope stored as a region's oldest scope decides whether the region is live
+  -- a region that is not live at the function's start is live exactly if the scope stored as its oldest scope has this region
   pub live-tested : (count : ℕ) (r : Region) → count ≤ n → is_region_among r live ≡ false → opening_of openings r < count →
       region_eq (scope_at scopes (opening_of openings r)).region r ≡ is_region_among r (live_before live scopes count)
   live-tested count r le never_live lt = same_tests (region_eq (scope_at scopes (opening_of openings r)).region r) (is_region_among r (live_before live scopes count))
@@ -152,7 +152,7 @@ module _ (w : List (Region × Region)) (live : List Region) (openings : List ℕ
             ]
       ]
 
-  -- if the live regions outlive a scope's region, the table stores that scope as the oldest scope of its region
+  -- if the live regions outlive a scope's region, the table of opening indexes stores this scope as the oldest scope of its region
   its-own : (i : ℕ) → i < n → is_outlived_by_live (scope_at scopes i).kind ≡ true → opening_of openings (scope_at scopes i).region ≡ i
   its-own i lt k =
       let o = order.each i lt in
@@ -197,8 +197,8 @@ module _ (w : List (Region × Region)) (live : List Region) (openings : List ℕ
             (subst (λ z. is_outlived_by_live (scope_at scopes z).kind ≡ true) (sym at) p.2)))
       ])
 
-  -- if the live regions outlive region b, its scope decides: a path leads from a to b exactly if a
-  -- has a path to a region live before the scope
+  -- if the live regions outlive region b, its scope decides: a path leads from a to b exactly if a has a path to a region live before the
+  -- scope
   pub leads-by_place : (a b : Region) (place : ℕ) → place ≡ opening_of openings b → place < length scopes →
       (scope_at scopes place).region ≡ b → is_outlived_by_live (scope_at scopes place).kind ≡ true → above w a b ≡ false →
       above_one_of w (live_before live scopes place) a ≡ leads w live (reverse scopes) a b
@@ -221,7 +221,7 @@ module _ (w : List (Region × Region)) (live : List Region) (openings : List ℕ
 -- ---- opening and closing of scopes
 
 module _ (w : List (Region × Region)) (live : List Region) where
-  -- the condition that the table of opening indexes fits the scope at index i depends only on the scopes up to index i
+  -- the condition that the table of opening indexes is correct for the scope at index i depends only on the scopes up to index i
   orderly-same : (openings : List ℕ) (xs ys : List Scope) (i : ℕ) → ((j : ℕ) → j ≤ i → scope_at xs j ≡ scope_at ys j) → take i xs ≡ take i ys →
       IsOrderly w live openings xs i → IsOrderly w live openings ys i
   orderly-same openings xs ys i at older o =
@@ -242,7 +242,7 @@ module _ (w : List (Region × Region)) (live : List Region) where
             (subst (λ (s : Scope). is_region_among s.region (live_before live xs i) ≡ false) e (o.fresh (back k)));
       }
 
-  -- if the table of opening indexes fits all open scopes, it still fits the older scopes after one more scope opens
+  -- if the table of opening indexes is correct for all open scopes, it stays correct for them after one more scope opens
   pub in_order-more : (openings : List ℕ) (scopes : List Scope) (s : Scope) (n : ℕ) → IsInOrder w live openings scopes n →
       IsInOrder w live openings (scopes ++ s ∷ []) n
   in_order-more openings scopes s n o = record {
@@ -253,8 +253,7 @@ module _ (w : List (Region × Region)) (live : List Region) where
         (o.each i lt);
   }
 
-  -- if the index of a not yet live region's opening is stored, the table of opening indexes still fits all open
-  -- scopes as `IsInOrder` requires
+  -- if the index of a not yet live region's opening is stored, the table of opening indexes stays correct for all open scopes (`IsInOrder`)
   pub in_order-noted : (openings noted : List ℕ) (scopes : List Scope) (n : ℕ) (region : Region) → IsInOrder w live openings scopes n →
       is_region_among region (live_before live scopes (length scopes)) ≡ false →
       ((r : Region) → region_eq region r ≡ false → opening_of noted r ≡ opening_of openings r) →
@@ -306,7 +305,7 @@ module _ (w : List (Region × Region)) (live : List Region) where
               (subst (λ (z : Scope). is_outlived_by_live z.kind ≡ true → is_region_among z.region (live_before live scopes (length scopes)) ≡ false) it fresh);
         }
 
-    -- if the region of a newly opened scope is already live, the table of opening indexes fits all scopes including the new one
+    -- if the region of a newly opened scope is already live, the table of opening indexes is correct for all scopes including the new one
     pub in_order-known : is_outlived_by_live s.kind ≡ false → is_region_among s.region (live_before live scopes (length scopes)) ≡ true →
         IsInOrder w live openings (scopes ++ s ∷ []) (length scopes + 1)
     in_order-known not_outlived known = in_order-next
@@ -330,7 +329,8 @@ module _ (w : List (Region × Region)) (live : List Region) where
         (λ k. absurd (never_true_and_false k not_outlived))
         (λ k. absurd (never_true_and_false k not_outlived))
 
-    -- if the region of a newly opened scope is not yet live, the table of opening indexes fits all scopes including the new one
+    -- if the index of a newly opened scope is stored for its region, not live before, the table of opening indexes is correct
+    -- for this scope too
     pub in_order-new : opening_of openings s.region ≡ length scopes →
         (is_outlived_by_live s.kind ≡ true → (b : Region) → above w s.region b ≡ region_eq s.region b) →
         is_region_among s.region (live_before live scopes (length scopes)) ≡ false →

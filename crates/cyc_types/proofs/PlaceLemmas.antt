@@ -12,7 +12,7 @@ use Rattle.cyc_types.specs.inside.ConstraintPlaces.{place_of, IsFirst, AreFirst}
 use Rattle.cyc_types.proofs.RegionLemmas.{region_eq-true}
 use Rattle.cyc_types.proofs.TableLemmas.{eq_true_at, table_leads-here, table_leads-there}
 
--- adding constraints of other regions does not change the index of a region's first constraint
+-- adding constraints in front that have other longer-lived regions does not change the index of a region's first constraint
 first_kept : (all last more : List Constraint) (a : Region) (place : Option ℕ) → ((b : Region) → table_leads more a b ≡ table_leads last a b)
     → IsFirst all last a place → IsFirst all more a place
 first_kept all last more a None same first = λ b. same b ∙ first b

@@ -1,5 +1,5 @@
--- Examples of the typing rules, the flow rules and tree weights, by computation, for programs over ints. Each example's verdict has the
--- program text above it on one line.
+-- Examples of the typing rules, the flow rules and the weights (token counts) of trees, by computation, for programs over ints. Each
+-- example's verdict has the program text above it on one line.
 use Rattle.std.specs.Prelude.{◌≡◌, ℕ, ◌+◌, List, [], ◌∷◌, Some, None, Ok, Err, codes, refl}
 use Rattle.cyc_words.specs.declared.fault.Code.TheVariants as faults
 use Rattle.cyc_syntax.specs.declared.tree.BinaryOperator.TheVariants as operators

@@ -16,7 +16,7 @@ use Rattle.cyc_types.specs.Outlives.{RegionContext, OutlivesIn, live_regions, is
 use Rattle.cyc_types.specs.Closure.{above, above_one_of, above_one_opened, leads, is_outliving, is_above_known, HasNoUnique}
 use Rattle.cyc_types.proofs.ClosureLemmas.{newest-from, outliving-sound, outliving-complete}
 
--- a region has a path to a live region exactly if it has one to an open scope's region or to one live before any opened
+-- a region has a path to a live region exactly if it has one to an open scope's region or to a region live at the start
 pub live-split : (w : List (Region × Region)) (live : List Region) (scopes : List Scope) (a : Region) →
     above_one_of w (live_regions live (reverse scopes)) a ≡ (above_one_opened w scopes a || above_one_of w live a)
 live-split w live scopes a =
@@ -106,8 +106,8 @@ module _ (w : List (Region × Region)) (live : List Region) where
       (or_right (not (region_eq (get_or scopes i d).region Unique) && above w x (get_or scopes i d).region)
       (above_one_of w (live_regions live (reverse (take i scopes))) x) u)
 
--- Invariant of the search for paths to region b: the oldest i scopes are visited, regions with a path
--- over these scopes are recorded, and region a has none.
+-- Invariant of the search for paths to region b: the oldest i scopes are visited, and a recorded scope index decides which regions have a
+-- path over these scopes to b. Region a has no such path.
 pub record IsSearched (w : List (Region × Region)) (live : List Region) (scopes : List Scope) (i : ℕ) (known : Option ℕ) (a b : Region) : Type 0 where
   pub same : (x : Region) → leads w live (reverse (take i scopes)) x b ≡ (above w x b || is_above_known w live scopes known x)
   pub within : (x : Region) → is_above_known w live scopes known x ≡ true →
@@ -143,7 +143,7 @@ module _ (w : List (Region × Region)) (live : List Region) (scopes : List Scope
     bound = before.bound;
   }
 
--- if the context mentions no unique region, the boolean test `is_outliving` decides the outlives relation
+-- if neither constraints nor open scopes contain the unique region, the boolean test `is_outliving` decides the outlives relation
 pub outliving_iff : (c : RegionContext) (a b : Region) (r : Bool) → HasNoUnique c → r ≡ is_outliving c a b → IsTrue r ↔ OutlivesIn c a b
 outliving_iff c a b r apart s = (
   λ h. outliving-sound c apart.written apart.opened a b (sym s ∙ h),

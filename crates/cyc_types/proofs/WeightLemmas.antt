@@ -7,7 +7,7 @@ use Rattle.cyc_types.specs.Types.{Ty}
 use Rattle.cyc_types.specs.TypedTrees as typed
 use Rattle.cyc_types.specs.Weight.{expression_weight, else_weight, statement_weight, constant_weight, global_weight, function_weight, program_weight}
 
--- the weight of an expression is at least one token
+-- the weight (token count) of an expression is at least one token
 pub some_token : (a : typed.Expression) → 1 ≤ expression_weight a
 some_token (typed.Unary o a) = omega (arith, some_token a)
 some_token (typed.Binary a os t) = omega (arith, some_token a)
@@ -23,7 +23,7 @@ pub else_lighter : (t : typed.Statement) (n : ℕ) → else_weight t n ≤ 1 + n
 else_lighter typed.Empty n = omega arith
 else_lighter t n = omega arith
 
--- the weight of a statement in an `else` branch is at most one token more than the weight that the branch adds to the `if`
+-- the weight (token count) of an `else` branch's statement is at most one token more than the weight that the branch adds to the `if`
 pub else_written : (t : typed.Statement) → statement_weight t ≤ 1 + else_weight t (statement_weight t)
 else_written typed.Empty = omega arith
 else_written t = omega arith

@@ -35,7 +35,7 @@ abbrev pub is_above_known : List (Region × Region) → List Region → List Sco
 is_above_known written live scopes None a = false
 is_above_known written live scopes (Some k) a = above_one_of written (live_regions live (reverse (take k scopes))) a
 
--- returns true if region a outlives region b, provided that no constraint and no scope mentions the unique region
+-- returns true if region a outlives region b, provided that the unique region occurs in no constraint and is no open scope's region
 abbrev pub is_outliving : RegionContext → Region → Region → Bool
 is_outliving c a b =
     region_eq a b
@@ -66,7 +66,7 @@ IsClosed constraints = (a b : Region) → table_leads constraints a b ≡ above 
 abbrev pub names_no_unique_scope : List Scope → Bool
 names_no_unique_scope scopes = list_all (λ s. not (region_eq s.region Unique)) scopes
 
--- says that neither the constraints nor the open scopes mention the unique region
+-- says that the unique region occurs in no constraint and is not the region of an open scope
 pub record HasNoUnique (c : RegionContext) : Type 0 where
   pub written : names_no_unique c.written ≡ true
   pub opened : names_no_unique_scope c.opened ≡ true

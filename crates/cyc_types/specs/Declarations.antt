@@ -33,7 +33,7 @@ abbrev mutual
   clause_types (Default r js) = item_types js
   clause_types (Case e n r js cs) = caught_types n ++ (item_types js ++ clause_types cs)
 
--- the number of regions that a statement declares; an `open` of a key declares no region, since the region belongs to its key
+-- the number of regions that a statement declares; opening a region by its key declares none, since the region was declared with its key
 abbrev mutual
   pub declared_regions : Statement → ℕ
   declared_regions (Block r js) = suc (item_regions js)

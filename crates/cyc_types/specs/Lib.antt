@@ -12,7 +12,7 @@ pub mod Demands
 pub mod Texts
 pub mod Weight
 pub mod Outlives
--- contracts of internal functions: the rules as functions, and the table of constraints
+-- contracts of internal functions: the typing and flow rules as functions, and the table of outlives constraints
 pub mod Closure
 -- Contracts between this crate's functions, and statements of its proofs. No public contract of the product depends on these internal
 -- definitions.

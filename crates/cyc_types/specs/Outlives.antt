@@ -22,8 +22,8 @@ pub record RegionContext : Type 0 where
 abbrev pub live_regions : List Region → List Scope → List Region
 live_regions live opened = map (λ s. s.region) opened ++ live
 
--- Returns true if the regions live when a scope of this kind opens outlive the scope's region. Returns false for opened dynamic
--- regions and for alias blocks, because their regions are older than the scopes.
+-- Returns true if the regions live when a scope of this kind opens outlive the scope's region. For the scope of an opened
+-- dynamic region or an alias the result is false, since the live regions need not outlive a region older than the scope.
 abbrev pub is_outlived_by_live : Kind → Bool
 is_outlived_by_live Block = true
 is_outlived_by_live Lexical = true
@@ -37,18 +37,18 @@ IsLiveAtOpening live (s ∷ earlier) a b =
     ((is_outlived_by_live s.kind ≡ true) × (b ≡ s.region) × (a ≢ Unique) × Contains (live_regions live earlier) a)
     ⊎ IsLiveAtOpening live earlier a b
 
--- says that a pair of regions generates the outlives relation: a constraint, a live region with a later scope's region, or the
--- heap with any non-unique region
+-- says that a pair of regions is one of those that generate the outlives relation: a constraint, a live region with a later
+-- scope's region, or the heap with any non-unique region
 abbrev pub IsGiven : RegionContext → Region → Region → Type 0
 IsGiven c a b =
     ((a ≡ Heap) × (b ≢ Unique)) ⊎ (Contains c.written (a, b) ⊎ IsLiveAtOpening c.live c.opened a b)
 
--- THE OUTLIVES RELATION: the least reflexive and transitive relation that contains the pairs of `IsGiven`
+-- THE OUTLIVES RELATION: the least reflexive and transitive relation that contains the generating pairs (`IsGiven`)
 pub data OutlivesIn (c : RegionContext) : Region → Region → Type 0 where
   itself : (a : Region) → OutlivesIn c a a
   given : (a b : Region) → IsGiven c a b → OutlivesIn c a b
   through : (a b d : Region) → OutlivesIn c a b → OutlivesIn c b d → OutlivesIn c a d
 
--- returns true if no constraint mentions the unique region
+-- returns true if the unique region occurs in no constraint
 abbrev pub names_no_unique : List (Region × Region) → Bool
 names_no_unique written = list_all (λ p. not (region_eq p.0 Unique) && not (region_eq p.1 Unique)) written

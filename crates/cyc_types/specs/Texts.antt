@@ -1,7 +1,7 @@
 -- Properties of typed programs that come from source texts, beyond the requirements of the typing rules. A struct has few fields,
--- because the lists of a source text are short. The number of an exception fits a 32-bit word, because a source text has few tokens. A
--- chain of pointer arithmetic contains no comparison, because `+` and `-` bind more tightly than comparisons. These properties are this
--- project's own choice.
+-- because the lists of a source text are short. The number of an exception fits a 32-bit word, because a source text has few tokens. An
+-- operator chain with pointer arithmetic contains no comparison, because `+` and `-` bind more tightly than comparisons. These
+-- properties are this project's own choice.
 use Rattle.std.specs.Prelude.{◌≡◌, ◌≤◌, Bool, true, false, not, ◌&&◌}
 use Rattle.cyc_words.specs.Word.{IsWord}
 use Rattle.cyc_syntax.specs.Grammar.{max_items}
@@ -19,14 +19,14 @@ is_comparison pointers.AddFat = false
 is_comparison pointers.SubtractFat = false
 is_comparison o = true
 
--- returns true if all operations of a chain are pointer arithmetic
+-- returns true if all operators of an operator chain are pointer arithmetic
 abbrev pub are_sums : Operations → Bool
 are_sums NoOperations = true
 are_sums (ThenPointer o a os) = not (is_comparison o) && are_sums os
 are_sums (ThenPointerPeek n o a os) = not (is_comparison o) && are_sums os
 are_sums os = false
 
--- returns true unless an operator is pointer arithmetic and an operation that is not pointer arithmetic follows it
+-- returns true unless the first operator is pointer arithmetic and one of the operators after it is not
 abbrev pub stands_alone : PointerOperator → Operations → Bool
 stands_alone pointers.AddFat os = are_sums os
 stands_alone pointers.SubtractFat os = are_sums os

@@ -56,7 +56,7 @@ mutual
     -- a function call, with the type of its result if the function returns one
     Call : Callee → Arguments → ValueType → Expression
     Unary : UnaryOperator → Expression → Expression
-    -- a chain of operands joined by left-associative operators, with the type of each intermediate result
+    -- an expression of several operands joined by left-associative operators (a chain), with the type of each intermediate result
     Binary : Expression → Operations → Ty → Expression
     -- An assignment to a variable or to a memory cell, with the type of the assignment's value. An assignment of a unique pointer or
     -- a key has no value.
@@ -93,7 +93,7 @@ mutual
     -- position of `for`
     Array : Place → (level : ℕ) → (length : Expression) → Kind → (element : Expression) → Initial
 
-  -- an expression whose value is converted after its evaluation
+  -- an expression whose value is converted from one representation kind (int, char, pointer, ..) to another after its evaluation
   pub data Converted : Type 0 where
     Convert : (from : Kind) → (to : Kind) → Expression → Converted
 
@@ -101,7 +101,7 @@ mutual
     NoArguments : Arguments
     MoreArguments : Converted → Arguments → Arguments
 
-  -- the operators of a chain, each with its right operand
+  -- the left-associative operators after the first operand of an expression, each with its right operand
   pub data Operations : Type 0 where
     NoOperations : Operations
     -- an operation that computes with two ints
@@ -219,10 +219,10 @@ pub record StructType : Type 0 where
   -- the types of the struct's fields, in order; in these types, region parameter n is region variable n
   pub fields : List Ty
 
--- the signature of a function, as its callers know it
+-- the type of a function and its requirements on callers, as its callers know them
 pub record Signature : Type 0 where
-  -- The number of regions that a function's parameters name or omit. In a signature's types, these regions are the region variables
-  -- from 1 on.
+  -- The number of regions in the types of a function's parameters: named ones, and one for each omitted region. In a signature's
+  -- types, these regions are the region variables from 1 on.
   pub variables : ℕ
   pub parameters : List Ty
   -- the result type of a function; `None` for `void`

@@ -12,7 +12,7 @@ use Rattle.cyc_types.specs.TypedTrees.{Dereference, Target, Member, Element, Pla
 use Rattle.cyc_types.specs.TypedTrees.{ThenCompute, ThenTest, ThenPointer, ThenPointerPeek, Side, VariableSide, CellSide, Statement, Block, Empty, Evaluate, Swap, If, While, Return, Break, Continue, Throw, Try, Items, NoItems}
 use Rattle.cyc_types.specs.TypedTrees.{MoreItems, Item, Execute, Declare, DeclareRegion, OpenRegion, DeclareAlias, DeclareKey, Clauses, NoClauses, Default, Case, Constant, Word, Null, GlobalVariable, Function, Program}
 
--- the weight of a unary operator; the conversion of a char to an int weighs nothing, because no token spells it
+-- the weight (token count) of a unary operator; the conversion of a char to an int weighs nothing, because no token spells it
 abbrev pub unary_weight : UnaryOperator → ℕ
 unary_weight unary.Widen = 0
 unary_weight o = 1
@@ -44,7 +44,7 @@ abbrev mutual
   dereference_weight (Member k a s f t) = 2 + expression_weight a
   dereference_weight (Element a i t) = 2 + expression_weight a + expression_weight i
 
-  -- the weight of `new`, or of `rnew` with the handle in its parentheses
+  -- the weight (token count) of `new`, or of `rnew` with the handle in its parentheses
   pub placement_weight : Placement → ℕ
   placement_weight OnHeap = 1
   placement_weight AsUnique = 4
@@ -62,7 +62,7 @@ abbrev mutual
   arguments_weight NoArguments = 0
   arguments_weight (MoreArguments c cs) = converted_weight c + more_arguments_weight cs
 
-  -- the weight of the arguments after the first, each with the comma before it
+  -- the weight (token count) of the arguments after the first, each with the comma before it
   pub more_arguments_weight : Arguments → ℕ
   more_arguments_weight NoArguments = 0
   more_arguments_weight (MoreArguments c cs) = 1 + converted_weight c + more_arguments_weight cs
@@ -74,7 +74,7 @@ abbrev mutual
   operations_weight (ThenPointer o a os) = 1 + expression_weight a + operations_weight os
   operations_weight (ThenPointerPeek n o a os) = 1 + expression_weight a + operations_weight os
 
--- the weight of `else` and its statement; an empty statement adds nothing, because the source need not write it
+-- the weight (token count) of `else` and its statement; an empty statement adds nothing, because the source need not write it
 abbrev pub else_weight : Statement → ℕ → ℕ
 else_weight Empty n = 0
 else_weight t n = 1 + n
@@ -83,7 +83,7 @@ abbrev pub side_weight : Side → ℕ
 side_weight (VariableSide l t) = 1
 side_weight (CellSide d) = dereference_weight d
 
--- the weight of a thrown exception's int and its parentheses
+-- the weight (token count) of a thrown exception's int and its parentheses
 abbrev pub thrown_weight : Option Expression → ℕ
 thrown_weight None = 0
 thrown_weight (Some a) = 2 + expression_weight a
@@ -123,7 +123,8 @@ abbrev mutual
   clauses_weight (Default r js) = 2 + items_weight js
   clauses_weight (Case e n r js cs) = 4 + caught_weight n + items_weight js + clauses_weight cs
 
--- the weight of a global's initial value and its `=`; the value 0 or null weighs nothing, because the source need not write it
+-- the weight (token count) of a global's initial value and its `=`; the value 0 or null weighs nothing, because the source
+-- need not write it
 abbrev pub constant_weight : Constant → ℕ
 constant_weight (Word zero) = 0
 constant_weight (Word (suc n)) = 2
@@ -132,7 +133,7 @@ constant_weight Null = 0
 abbrev pub global_weight : GlobalVariable → ℕ
 global_weight g = 3 + constant_weight g.value
 
--- the weight of a function; each parameter counts as two tokens, a type and a name
+-- the weight (token count) of a function; each parameter counts as two tokens, a type and a name
 abbrev pub function_weight : Function → ℕ
 function_weight h = 6 + separated_weight (λ _. 2) h.parameters + items_weight h.body
 

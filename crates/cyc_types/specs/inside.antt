@@ -1,4 +1,4 @@
--- contracts of internal functions: the rules as functions, and the table of constraints
+-- contracts of internal functions: the typing and flow rules as functions, and the table of outlives constraints
 pub mod Openings
 pub mod RegionMarks
 pub mod ConstraintPlaces

@@ -1,5 +1,5 @@
-//! A table of transitively closed constraints, indexed by region. The table finds the constraints whose longer-lived
-//! region is a given region without a search.
+//! A table of the transitively closed outlives constraints, indexed by region. The table finds the constraints whose
+//! longer-lived region is a given region without a search.
 ghost use Rattle.std.specs.Prelude.{◌≡◌, ℕ, ◌<◌, cond, get_or, length, Some, None, OnOk, IfSome, MatchOption};
 ghost use Rattle.cyc_types.specs.declared.region.Region.{Region};
 ghost use Rattle.cyc_types.specs.Types.{region_eq};
@@ -16,7 +16,7 @@ use std::marker::Model;
 pub(crate) struct Places {
     heap: Option<usize>,
     unique: Option<usize>,
-    /// The index of the first constraint of each region variable, by the variable's number.
+    /// For each region variable, indexed by its number, the index of the first constraint that has it as longer-lived region.
     variables: Vec<Option<usize>>,
 }
 
@@ -41,7 +41,7 @@ impl Model for ConstraintTable {
 }
 
 impl Places {
-    /// Returns a table in which no region has a first constraint.
+    /// Returns a table that records for no region a first constraint with it as longer-lived region.
     fn new(alloc: Global) -> Places
         ensures { (r : Region) → place_of result r ≡ None }
     {
@@ -95,7 +95,7 @@ fn grow(variables: &mut Vec<Option<usize>>, number: usize) -> Result<(), AllocEr
 impl ConstraintTable {
     ghost use Rattle.std.specs.Prelude.{◌≡◌, IfOk};
 
-    /// Returns the table that finds these constraints by region.
+    /// Returns the table of these constraints, in which those with a given longer-lived region are found without a search.
     pub(crate) fn new(
         alloc: Global,
         constraints: Vec<Constraint>,

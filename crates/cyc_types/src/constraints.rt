@@ -147,7 +147,7 @@ pub(crate) fn closed(
     let mut constraints = unclosed(alloc, written)?;
     for i in (0..written.len()).rev() {
         let (longer, shorter) = written[i];
-        // the earlier constraints already imply the pair, so the loop adds no region
+        // the earlier constraints already imply this outlives constraint, so the loop adds no region to the recorded outlived regions
         if is_known(&constraints, longer, shorter) {
             continue;
         }

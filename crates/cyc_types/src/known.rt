@@ -86,7 +86,7 @@ impl Known {
         &self.regions
     }
 
-    /// Returns the number of the name `main`.
+    /// Returns the number that identifies the name `main`.
     pub fn main(&self) -> usize
         ensures { result ≡ self.now.main }
     {

@@ -52,29 +52,31 @@ pub fn typed_trees_are_well_typed()
     ensures { (texts : List (List ℕ)) (tree : List Declaration) (p : Program) → IsTypedProgram texts tree p → IsWellTypedProgram p }
 {}
 
-/// The typing rules derive no declaration whose type mentions an unknown region.
+/// The typing rules derive no declaration whose type contains an undeclared region.
 pub fn typed_trees_are_formed()
     ensures { (texts : List (List ℕ)) (tree : List Declaration) (p : Program) → IsTypedProgram texts tree p → IsFormedProgram p }
 {}
 
-/// The weight of a typed tree is at most the weight of its syntax tree.
+/// The weight (token count) of a typed tree is at most the weight of its syntax tree.
 pub fn typed_trees_are_no_heavier()
     ensures { (texts : List (List ℕ)) (tree : List Declaration) (p : Program) → IsTypedProgram texts tree p → program_weight p ≤ tree_weight tree }
 {}
 
-/// An `else` adds at least the weight of its statement minus one token, the weight of an empty statement.
+/// An `else` adds to the weight (token count) of an `if` at least the weight of its statement minus one
+/// token, the weight of an empty statement.
 pub fn an_else_weighs_its_statement()
     ensures { (s : Statement) → statement_weight s ≤ 1 + else_weight s (statement_weight s) }
 {}
 
-/// A program weighs at least as much as each of its functions; each global weighs at least three tokens, and each function at least six.
+/// The weight (token count) of a program is at least that of each of its functions; each global weighs at least three tokens, and each
+/// function at least six.
 pub fn programs_outweigh_their_parts()
     ensures function { (p : Program) (n : ℕ) (h : Function) → slice_get p.functions n ≡ Some h → function_weight h ≤ program_weight p }
     ensures declarations { (p : Program) → 3 * length p.globals + 6 * length p.functions ≤ program_weight p }
 {}
 
-/// Each function has a minimum weight. The minimum weight of a function counts two tokens for each parameter and three for each
-/// local of the body. For each region that the parameters do not name, the minimum weight of a function counts two tokens.
+/// Each function has a minimum weight (token count). The minimum weight of a function counts two tokens for each parameter and three for
+/// each local of the body. For each region that the parameters do not name, the minimum weight of a function counts two tokens.
 pub fn functions_outweigh_their_locals()
     ensures { (p : Program) (n : ℕ) (h : Function) → IsWellTypedProgram p → slice_get p.functions n ≡ Some h
         → (h.variables + 1 ≤ h.regions) × (2 * length h.parameters + 3 * length h.locals + 2 * h.regions + 4 ≤ function_weight h + 2 * h.variables) }

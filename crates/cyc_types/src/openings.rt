@@ -92,7 +92,8 @@ fn is_above_live_before(
     }
 }
 
-/// Returns true if a path of constraints and open scopes leads from `a` to `b`, provided that the table of opening indexes fits all scopes.
+/// Returns true if a path of constraints and open scopes leads from `a` to `b`, provided that the table of opening indexes is correct for
+/// all scopes.
 ///
 /// A region that is live when a scope opens outlives the scope's region. A region that is not live when the scope opens outlives the
 /// scope's region only by constraints, since the scope's region is new.
@@ -159,8 +160,8 @@ fn is_alone(constraints: &ConstraintTable, region: Region) -> bool
     }
 }
 
-/// Returns true if the table of opening indexes will fit the next scope, provided that it fits the oldest `in_order` scopes. Stores
-/// in this table the index of the oldest scope of the next scope's region.
+/// Returns true if the table of opening indexes will be correct for the next scope, provided that it is correct for the oldest
+/// `in_order` scopes. Stores in this table the index of the oldest scope of the next scope's region.
 pub(crate) fn opens_in_order(
     constraints: &ConstraintTable,
     live: &RegionList,

@@ -32,8 +32,8 @@ pub struct Outlives {
     /// For each region variable with an open scope, the index of the oldest such scope. Entries of region variables without an
     /// open scope are meaningless.
     openings: Vec<usize>,
-    /// The number of oldest scopes that the table `openings` fits. For these oldest scopes, `openings` decides which regions
-    /// are live and which regions outlive each other.
+    /// The number of oldest scopes for which the table `openings` is correct. For these oldest scopes, `openings` decides
+    /// which regions are live and which regions outlive each other.
     in_order: usize,
 }
 
@@ -73,7 +73,8 @@ impl Outlives {
     /// Returns true if region `a` outlives region `b`.
     pub fn outlives(&self, a: Region, b: Region) -> bool
         ensures tested { result ≡ is_outliving self.now a b }
-        // If neither the constraints nor the scopes mention the unique region, the result decides the outlives relation.
+        // If the unique region occurs neither in the constraints nor in the scopes, this method returns true exactly if
+        // region `a` outlives region `b`.
         ensures related { HasNoUnique self.now → (IsTrue result ↔ OutlivesIn self.now a b) }
     {
         self.is_outliving(a, b)
@@ -224,8 +225,9 @@ fn is_above_live(
 
 /// Returns true if a path of the constraints and the open scopes leads from region `a` to region `b`.
 ///
-/// The scopes are visited from the oldest to the newest. Once all regions live at some scope outlive `b`, a later scope matters only if the
-/// later scope's own region outlives `b`. If a later scope's own region outlives `b`, all regions live at that later scope outlive `b` too.
+/// The scopes are visited from the oldest to the newest. Once all regions live at some scope outlive `b`, a later scope adds something only
+/// if the later scope's own region outlives `b`. If a later scope's own region outlives `b`, all regions live at that later scope outlive
+/// `b` too.
 fn leads(
     constraints: &ConstraintTable,
     live: &[Region],

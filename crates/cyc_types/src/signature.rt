@@ -1,4 +1,4 @@
-//! The signature of a function, as its callers know it.
+//! The type of a function and its requirements on callers, as its callers know them.
 ghost use Rattle.std.specs.Prelude.{◌≡◌, List, map, option_map, IfOk};
 ghost use Rattle.cyc_types.specs.Types.{substituted_region, substituted_ty};
 ghost use Rattle.cyc_types.specs.TypeView.{view_ty};
@@ -12,7 +12,7 @@ use std::alloc::{AllocError, Global};
 /// signature's region variables are numbered from 1.
 #[derive(Drop)]
 pub struct Signature {
-    /// The number of regions that the function's parameters name or omit.
+    /// The number of regions in the types of the function's parameters: the named ones, and one for each omitted region.
     pub variables: usize,
     pub parameters: Vec<Ty>,
     /// The result type of the function; `None` for `void`.

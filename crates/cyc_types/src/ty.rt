@@ -137,7 +137,7 @@ impl Ty {
         })
     }
 
-    /// Returns the number of words of a variable of this type: three for a fat pointer, otherwise one.
+    /// Returns the number of 32-bit words of a variable of this type: three for a fat pointer, otherwise one.
     pub fn words(&self) -> u32
         ensures { result ≡ words_of (view_ty self.now) }
     {

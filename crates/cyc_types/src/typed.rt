@@ -290,7 +290,7 @@ pub struct Converted {
     pub value: Expr,
 }
 
-/// An operator of a chain, with its right operand.
+/// One of the left-associative operators of an expression, with its right operand.
 #[cycle(expression)]
 #[derive(Drop)]
 pub enum Operation {
@@ -305,7 +305,7 @@ pub enum Operation {
         operator: LogicalOperator,
         operand: Expr,
     },
-    /// An operator of a chain whose left operand is a pointer or `NULL`.
+    /// One of the left-associative operators of an expression, with a left operand that is a pointer or `NULL`.
     Pointer {
         operator: PointerOperator,
         operand: Expr,
@@ -399,7 +399,7 @@ pub struct Clause {
     pub items: Vec<Item>,
 }
 
-/// A part of a block: a statement or a declaration.
+/// An element of a block: a statement or a declaration.
 #[cycle(statement)]
 #[derive(Drop)]
 pub enum Item {

@@ -18,7 +18,7 @@ use cyc_types::Ty;
 use cyc_types::typed::{Operator, PointerOperator};
 use cyc_words::{Code, Span};
 
-/// The meaning of a comparison for equality: it compares ints or pointers.
+/// The operation that a comparison for equality performs: it compares ints or pointers.
 #[derive(Clone, Copy)]
 pub(crate) enum Comparison {
     OfInts {
@@ -88,7 +88,7 @@ fn are_compared(left: Given<'_>, right: Given<'_>) -> bool
     }
 }
 
-/// Returns false if two pointers are compared and the region of the left one is not live.
+/// Returns false if a comparison for equality is forbidden because it compares two pointers and the region of the left one is not live.
 fn is_type_compared_live(scope: &Scope<'_>, of_type: &Ty, other: &Ty) -> bool
     ensures { result ≡ is_compared_live scope.now (types.Value (view_ty of_type.now)) (types.Value (view_ty other.now)) }
 {

@@ -1,4 +1,4 @@
-//! The requirements of each form of expression, and the typed node that results after the form's parts are checked.
+//! The requirements of each form of expression, and the typed node that results after the expression's subexpressions are checked.
 #![tactic(auto)]
 
 pub use objects::{Placed, array_made, as_unique, by_handle, created, on_heap, plain_made};

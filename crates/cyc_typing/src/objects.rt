@@ -30,7 +30,7 @@ pub struct Placed {
     pub region: Region,
 }
 
-/// Returns the placement of an object made by `new`: on the heap, without further requirements.
+/// Returns the placement (region, typed node and requirements) of an object made by `new`: on the heap, without further requirements.
 #[inline(never)]
 pub fn on_heap(alloc: Global) -> Result<Box<Placed>, Stop>
     ensures { GivesOne IsPlaced result (Ok on_heap) }
@@ -46,7 +46,7 @@ pub fn on_heap(alloc: Global) -> Result<Box<Placed>, Stop>
     )?)
 }
 
-/// Returns the placement of an object made by `rnew(unique_region)`.
+/// Returns the placement (region, typed node and requirements) of an object made by `rnew(unique_region)`.
 #[inline(never)]
 pub fn as_unique(alloc: Global) -> Result<Box<Placed>, Stop>
     ensures { GivesOne IsPlaced result (Ok as_unique) }
@@ -62,7 +62,8 @@ pub fn as_unique(alloc: Global) -> Result<Box<Placed>, Stop>
     )?)
 }
 
-/// Returns the placement of an object in the region of a handle; `span` is the handle's source position.
+/// Returns the placement (region, typed node and requirements) of an object in the region of a handle; `span` is the handle's source
+/// position.
 #[inline(never)]
 pub fn by_handle(
     scope: &Scope<'_>,
@@ -183,7 +184,7 @@ pub fn array_made(
     )?)
 }
 
-/// Adds requirements that were checked separately from the beginning to the requirements checked so far.
+/// Adds requirements that were checked on their own, not after the earlier ones, to the requirements checked so far.
 fn settle_too(so_far: &mut Settled, other: Settled)
     ensures { so_far.new.known ≡ merged so_far.old.known other.known }
 {

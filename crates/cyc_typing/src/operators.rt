@@ -26,8 +26,8 @@ use cyc_types::{Ty, typed};
 use cyc_words::{Code, Span};
 use std::alloc::Global;
 
-/// The left operand of an operator: the source position of its chain, the local that it reads without moving a unique
-/// pointer, and its type.
+/// The left operand of an operator: the whole operator expression's source position, the local that the operand reads
+/// without moving a unique pointer, and the operand's type.
 #[derive(Clone, Copy)]
 pub struct Left<'a> {
     pub span: Span,
@@ -35,7 +35,7 @@ pub struct Left<'a> {
     pub given: Given<'a>,
 }
 
-/// Adds an operation at the end of the list of a chain's operations.
+/// Adds an operator with its right operand at the end of the list of an expression's operators.
 fn push(operations: &mut Vec<Operation>, operation: Operation) -> Result<(), Stop>
     ensures pushed { OnOk result (operations.new.items ≡ operations.old.items ++ operation ∷ []) }
     ensures memory { IfErr result (λ e. e ≡ stops.Memory) }
@@ -178,7 +178,7 @@ fn sum_wanted(left: Given<'_>, span: Span, right: Given<'_>, right_span: Span) -
     settled.end()
 }
 
-/// Adds a sum or difference whose left operand has the type `left` to the operations of a chain.
+/// Adds a sum or difference whose left operand has the type `left` to the list of an expression's operators.
 fn push_type_sum(
     operations: &mut Vec<Operation>,
     left: &Ty,
@@ -198,7 +198,7 @@ fn push_type_sum(
     }
 }
 
-/// Adds a sum or difference, of ints or of a fat pointer and an int, to the operations of a chain.
+/// Adds a sum or difference, of ints or of a fat pointer and an int, to the list of an expression's operators.
 #[inline(never)]
 fn push_sum(
     operations: &mut Vec<Operation>,
@@ -258,7 +258,7 @@ fn push_comparison(
     }
 }
 
-/// Adds a comparison for equality or inequality to the operations of a chain.
+/// Adds a comparison for equality or inequality to the list of an expression's operators.
 #[inline(never)]
 fn join_equality(
     scope: &Scope<'_>,
@@ -279,7 +279,7 @@ fn join_equality(
     Ok(Ty::Int)
 }
 
-/// Adds an operator with its right operand at the end of a chain's operations. Returns the type of the operator's result.
+/// Adds an operator with its right operand at the end of the list of an expression's operators. Returns the type of the operator's result.
 #[inline(never)]
 pub fn join(
     scope: &Scope<'_>,
@@ -333,7 +333,7 @@ pub fn join(
     }
 }
 
-/// Returns the expression of operands joined by operators, with the type of the complete chain.
+/// Returns the expression of operands joined by operators, with the type of the complete expression.
 #[inline(never)]
 pub fn binary(
     alloc: Global,

@@ -212,7 +212,7 @@ fn find_field(fields: &[Field], name: usize) -> (usize, Option<&Ty>)
     (fields.len(), None)
 }
 
-/// Returns the type of a field in a struct with the given region arguments; for an unknown field, returns the type int.
+/// Returns the type of a field in a struct with the given region arguments. If the struct has no such field, returns the type int.
 fn field_type(alloc: Global, arguments: &[Region], known: Option<&Ty>) -> Result<Ty, AllocError>
     ensures { IfOk result (λ t. view_ty t ≡ field_type arguments.now (option_map (λ k. view_ty k.now) known.entry)) }
 {
@@ -360,8 +360,8 @@ fn address_of(alloc: Global, side: Side, of_type: Ty) -> Result<Box<typed::Expr>
     }
 }
 
-/// Returns the address of an lvalue; `span` is the lvalue's source position. The lvalue may not be a key, a unique pointer,
-/// or a part of a unique object.
+/// Returns the address of an lvalue; `span` is the lvalue's source position. The lvalue may not be a key or a unique
+/// pointer, and may not lie in a unique object.
 #[inline(never)]
 pub fn addressed(alloc: Global, span: Span, found: Box<Found>) -> Result<Box<typed::Expr>, Stop>
     ensures { Gives view_boxed result (run (addressed (place_of_span span) (view_found found))) }

@@ -119,7 +119,8 @@ fn counter(alloc: Global, level: usize) -> Result<Box<typed::Expr>, Stop>
     boxed(alloc, typed::Expr::Counter { level })
 }
 
-/// Returns the expression that reads the meaning of a name; `span` is the name's source position.
+/// Returns the expression that reads the value that a name denotes, given the name's meaning (such
+/// as a variable); `span` is the name's source position.
 fn read_meant(alloc: Global, meaning: Meaning<'_>, span: Span) -> Result<Box<typed::Expr>, Stop>
     ensures { Gives view_boxed result (run (read (view_meaning meaning.entry) (place_of_span span))) }
 {

@@ -1,8 +1,8 @@
-//! This file computes the values of constant expressions.
+//! This file computes the values of constant expressions of a program, for warnings about these values.
 use cyc_syntax::{BinaryOperator, Expr, Operation, PrefixOperator};
 
-/// The deepest nesting of expressions that are evaluated. Each nesting level evaluates its parts again, so without a limit the work would
-/// grow with the square of the depth.
+/// The deepest nesting of expressions that are evaluated. The subexpressions are evaluated again at each nesting level, so without a
+/// limit the work would grow with the square of the depth.
 const DEEPEST: u32 = 12;
 
 /// Returns the value of a constant expression. Returns `None` if the expression is not constant, or if the sign of a value would
@@ -51,7 +51,7 @@ fn constant_within(expression: &Expr, levels: u32) -> Option<u32> {
     }
 }
 
-/// Returns true if each of these operators can be evaluated by `computed`, that is, if none of them is a comparison or a logical operator.
+/// Returns true if the value of each of these operators can be computed by `computed`: none of them is a comparison or a logical operator.
 fn are_worked_out(operations: &[Operation]) -> bool {
     for operation in operations {
         if is_condition(operation.operator) {

@@ -1,4 +1,4 @@
-//! This file finds warnings in expressions and their parts.
+//! This file finds warnings in expressions and their subexpressions.
 use crate::constants::{constant_of, is_more_than, is_past_width};
 use crate::finder::Finder;
 use crate::locals::{Local, Use};
@@ -134,7 +134,7 @@ fn is_bits(operator: BinaryOperator) -> bool {
     )
 }
 
-/// Returns how a binary operator uses its operands.
+/// Returns how a binary operator uses its operands: whether it only examines a unique pointer, or uses its value.
 fn use_by(operator: BinaryOperator) -> Use {
     match operator {
         BinaryOperator::OrElse
@@ -145,7 +145,8 @@ fn use_by(operator: BinaryOperator) -> Use {
     }
 }
 
-/// Returns the use of the first operand in a chain of operators of one precedence level.
+/// Returns how the first operator in a chain of operators of one precedence level uses the first operand: by value, or by only examining
+/// it.
 fn use_in(operations: &[Operation]) -> Use {
     match operations.first() {
         Some(operation) => use_by(operation.operator),
@@ -153,12 +154,12 @@ fn use_in(operations: &[Operation]) -> Use {
     }
 }
 
-/// Returns the use of the lvalue that is assigned, given the use of the assignment's value.
+/// Returns how an assignment uses the lvalue that is assigned, given whether the value of the assignment itself is used.
 fn use_of_target(use_of: Use) -> Use {
     Use::Assigned(!matches!(use_of, Use::Dropped))
 }
 
-/// Returns how a prefix operator uses its operand.
+/// Returns how a prefix operator uses its operand: it takes its value, only examines it, or takes its address.
 fn use_of_prefix(operator: PrefixOperator) -> Use {
     match operator {
         PrefixOperator::Dereference | PrefixOperator::Not => Use::Looked,
@@ -193,7 +194,7 @@ fn most_elements(element: Option<Shape>) -> u32 {
     }
 }
 
-/// Returns the type of the result of a chain of operators: for a sum, the type of its first value, and int for other operators.
+/// Returns the type of the result of a chain of binary operators: for a sum, the type of its first operand, and int for other operators.
 fn shape_of_result(first: Option<Shape>, rest: &[Operation]) -> Option<Shape> {
     match rest.last() {
         Some(operation) if is_sum(operation.operator) => match first {
@@ -209,7 +210,8 @@ fn is_sum(operator: BinaryOperator) -> bool {
     matches!(operator, BinaryOperator::Add | BinaryOperator::Subtract)
 }
 
-/// Returns true if an expression has no subexpressions, as most operands; such an expression is examined without a further function call.
+/// Returns true if an expression has no subexpressions, as most operands do; such an expression is examined without a further function
+/// call.
 fn is_leaf(expression: &Expr) -> bool {
     matches!(
         expression,
@@ -255,7 +257,7 @@ impl Finder {
         }
     }
 
-    /// Returns the type of an expression after these postfix operators.
+    /// Returns the type of an operand with these postfix operators, given the type of the operand before them.
     fn shape_after(&self, base: Option<Shape>, postfixes: &[Postfix]) -> Option<Shape> {
         let mut shape = base;
         for postfix in postfixes {
@@ -287,14 +289,14 @@ impl Finder {
 
     // ---- parts of expressions
 
-    /// Records how an expression that has no parts is used.
+    /// Records a use of the local that an expression without subexpressions denotes, if it denotes one.
     fn note_leaf(&mut self, expression: &Expr, use_of: Use) {
         if let Expr::Variable { name } = expression {
             self.note(*name, use_of);
         }
     }
 
-    /// Examines an expression and its parts.
+    /// Searches an expression and its subexpressions for warnings, and records how they use locals.
     #[cycle(expressions)]
     pub(crate) fn look_at(&mut self, expression: &Expr, use_of: Use) {
         match expression {
@@ -382,7 +384,7 @@ impl Finder {
         }
     }
 
-    /// Examines the initial value of a new object.
+    /// Searches the initial value of an object allocated by `new` or `rnew` for warnings.
     #[cycle(expressions)]
     fn look_at_initial(&mut self, initial: &Initial) {
         self.count_effect();
@@ -417,14 +419,14 @@ impl Finder {
         self.effects = self.effects.saturating_add(1);
     }
 
-    /// Examines a value that is converted to a char, and warns if it does not fit in a byte.
+    /// Warns if a value that is converted to a char is a constant that does not fit in a byte.
     pub(crate) fn look_at_byte(&mut self, value: &Expr) {
         if is_more_than(value, LARGEST_CHAR) {
             self.warn(span_of(value), Warning::CharConstant);
         }
     }
 
-    /// Examines the initial value of a global.
+    /// Searches the initial value of a global for warnings.
     pub(crate) fn look_at_global(&mut self, of_type: &WrittenType, value: GlobalValue) {
         if Shape::written(of_type, self.known.unique).is_char() {
             match value {
@@ -476,7 +478,8 @@ impl Finder {
         }
     }
 
-    /// Examines the first postfix operator, if it is an index of a local whose array length may be known.
+    /// Checks the first postfix operator of a local for an index past the end of its array, if the operator is an index and the array's
+    /// length may be known.
     fn look_at_first(&mut self, base: &Expr, postfixes: &[Postfix]) {
         if let Expr::Variable { name } = base {
             if let Some(Postfix::Index { index }) = postfixes.first() {
@@ -495,7 +498,7 @@ impl Finder {
         }
     }
 
-    /// Examines an index of the local with index `local`, which was declared with an array of `length` elements.
+    /// Checks an array index against the number of elements, `length`, of the array with which the local with index `local` was declared.
     fn look_at_number(&mut self, local: usize, length: u32, index: &Expr) {
         if let Some(value) = constant_of(index) {
             if value >= length {
@@ -506,7 +509,7 @@ impl Finder {
 
     // ---- binary operators
 
-    /// Examines operators of one precedence level.
+    /// Searches the operators of one precedence level, with their operands, for warnings.
     fn look_at_operators(&mut self, first: &Expr, rest: &[Operation]) {
         let mut left = Some(first);
         let mut is_ordered = false;
@@ -531,7 +534,8 @@ impl Finder {
         }
     }
 
-    /// Examines an operator and its right operand, and also the left operand if the operator is the first of a chain.
+    /// Searches an operation for warnings that depend on the operator and its right operand or, if the operator is
+    /// the first of a chain, also on the left operand.
     fn look_at_operation(&mut self, left: Option<&Expr>, operation: &Operation) {
         let (span, operand) = (operation.span, &operation.operand);
         match operation.operator {
@@ -562,7 +566,7 @@ impl Finder {
         }
     }
 
-    /// Examines the right operand of `||` or `&&`, and also the left operand if the operator is the first of a chain.
+    /// Searches the right operand of `||` or `&&` for warnings, and also the left operand if the operator is the first of a chain.
     fn look_at_truths(&mut self, left: Option<&Expr>, operand: &Expr) {
         if let Some(left) = left {
             if is_no_truth(left) {
@@ -574,8 +578,8 @@ impl Finder {
         }
     }
 
-    /// Returns true if one operand of a comparison is a char and the other is a constant outside
-    /// the range of chars, so that the result is known.
+    /// Returns true if one operand of a comparison is a char and the other is a constant outside the range of chars, so that the result is
+    /// known.
     fn is_settled(&self, one: &Expr, other: &Expr) -> bool {
         is_more_than(other, LARGEST_CHAR) && self.is_char(one)
     }

@@ -13,9 +13,9 @@ pub(crate) struct Finder {
     pub(crate) known: Known,
     pub(crate) locals: Locals,
     found: Findings,
-    /// True if the function that is examined returns a char.
+    /// True if the result type of the function whose body is searched for warnings is `char`.
     pub(crate) gives_char: bool,
-    /// The number of calls, assignments, allocations and deallocations so far.
+    /// The number of calls, assignments, allocations and deallocations in the expressions examined so far.
     pub(crate) effects: usize,
 }
 
@@ -44,7 +44,7 @@ impl Finder {
         self.warn_after(span, warning, span);
     }
 
-    /// Adds a warning that refers to the token at another source position.
+    /// Adds a warning at one source position whose text refers to the token at another source position.
     pub(crate) fn warn_after(&mut self, span: Span, warning: Warning, named: Span) {
         self.found.add(Found {
             span,
@@ -82,7 +82,7 @@ impl Finder {
         }
     }
 
-    /// Reports the warnings about a function's locals, and forgets the locals.
+    /// Adds the warnings about a function's locals at the function's end, and removes the locals.
     fn end_function(&mut self) {
         for i in 0..self.locals.all.len() {
             if let Some(local) = self.locals.all.get(i) {
@@ -111,12 +111,12 @@ impl Finder {
         self.known.bind(name.name.number, number);
     }
 
-    /// Declares a local that is a handle or a key.
+    /// Declares a local that is a region handle or a key of a dynamic region.
     pub(crate) fn declare_other(&mut self, name: Ident) {
         self.declare(name, Local::new(name.span, OTHER));
     }
 
-    /// Records a use of the local with this name.
+    /// Records that the local with this name is used in the given way.
     pub(crate) fn note(&mut self, name: Ident, use_of: Use) {
         if let Some(local) = self.locals.all.get_mut(self.known.local(name.name.number)) {
             local.note(use_of);

@@ -33,19 +33,19 @@ struct Field {
     shape: Shape,
 }
 
-/// A name in scope, and the local that this name denoted before.
+/// The binding of a name to a local, with the local that this name denoted before the binding.
 #[derive(Clone, Copy)]
 struct Binding {
     name: usize,
     hidden: usize,
 }
 
-/// The meaning of names at a program point.
+/// The meanings of all names at the point that the traversal of the program has reached.
 #[derive(Drop)]
 pub(crate) struct Known {
     /// The meanings of names, indexed by the number that identifies a name.
     entries: Vec<Entry>,
-    /// For each name, the index of the local that it denotes; the list is indexed by the number that identifies a name.
+    /// For each name, the index of the local variable that it denotes now; the list is indexed by the number that identifies a name.
     locals: Vec<usize>,
     /// The fields of all structs; the fields of one struct are adjacent.
     fields: Vec<Field>,
@@ -55,7 +55,7 @@ pub(crate) struct Known {
     bindings: Vec<Binding>,
     /// The number that identifies the name of the region of unique pointers.
     pub(crate) unique: usize,
-    /// True if memory has not run out.
+    /// True if all memory allocations of this table of names have succeeded so far.
     pub(crate) is_whole: bool,
 }
 

@@ -1,5 +1,5 @@
-//! This crate finds warnings: parts of an accepted text that most likely do not mean what their author intended. Warnings are found on the
-//! syntax tree with the types of its declarations. No phase of the compiler depends on warnings, and they change no result.
+//! This crate finds warnings: places in an accepted text that most likely do not mean what their author intended. Warnings are found on
+//! the syntax tree with the types of its declarations. No phase of the compiler depends on warnings, and they change no result.
 #![tactic(auto)]
 
 pub use finding::find_warnings;

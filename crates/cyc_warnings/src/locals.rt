@@ -19,7 +19,7 @@ pub(crate) enum Use {
     Taken,
 }
 
-/// A local variable, with facts from the part of the text that was traversed so far.
+/// A local variable, with the facts about its uses in the text traversed so far.
 #[derive(Clone, Copy)]
 pub(crate) struct Local {
     pub(crate) span: Span,
@@ -52,7 +52,7 @@ impl Local {
         }
     }
 
-    /// Records a use of a local.
+    /// Records that a local is used in the given way.
     pub(crate) fn note(&mut self, use_of: Use) {
         match use_of {
             Use::Value | Use::Dropped => {
@@ -101,7 +101,7 @@ pub(crate) struct Suspect {
 pub(crate) struct Locals {
     pub(crate) all: Vec<Local>,
     pub(crate) suspects: Vec<Suspect>,
-    /// True if memory has not run out.
+    /// True if all memory allocations of this list of locals have succeeded so far.
     pub(crate) is_whole: bool,
 }
 

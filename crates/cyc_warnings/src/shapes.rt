@@ -1,4 +1,4 @@
-//! This file defines the shape of a type: the parts of the type that warnings need.
+//! This file defines the shape of a type: the base, pointer signs and region, which are all that warnings depend on.
 use cyc_syntax::{BaseType, PointerKind, WrittenType};
 
 /// The base of a type: the type as it is written before its pointer signs (`*`, `@` and `?`).
@@ -8,7 +8,7 @@ pub(crate) enum Base {
     Char,
     /// A struct, given by the number that identifies its name.
     Struct(usize),
-    /// A handle or a key.
+    /// A region handle, or the key of a dynamic region.
     Other,
 }
 
@@ -21,7 +21,7 @@ pub(crate) enum Home {
     Other,
 }
 
-/// The shape of a type: its base, the number of its pointer signs, and the kind and region of the last pointer sign.
+/// The shape of a type: its base, the number of its pointer signs, and the kind (`*`, `@` or `?`) and the region of the last pointer sign.
 #[derive(Clone, Copy)]
 pub(crate) struct Shape {
     pub(crate) base: Base,
@@ -30,7 +30,7 @@ pub(crate) struct Shape {
     pub(crate) home: Home,
 }
 
-/// The type of an int.
+/// The shape of the type `int`.
 pub(crate) const INT: Shape = Shape {
     base: Base::Int,
     marks: 0,
@@ -45,7 +45,7 @@ pub(crate) const CHAR: Shape = Shape {
     home: Home::Other,
 };
 
-/// The type of a handle or a key.
+/// The shape of the type of a region handle or of a key.
 pub(crate) const OTHER: Shape = Shape {
     base: Base::Other,
     marks: 0,

@@ -1,4 +1,4 @@
-//! This file finds warnings in declarations and statements and in their parts.
+//! This file finds warnings in declarations and statements, and in the expressions in them.
 use crate::constants::constant_of;
 use crate::expressions::{is_bare, is_null};
 use crate::finder::Finder;
@@ -34,8 +34,8 @@ fn length_of(expression: &Expr) -> Option<u32> {
 impl Finder {
     // ---- items
 
-    /// Examines the declarations and statements of a block. Returns true if the last of them always leaves the block. The analysis does
-    /// not look for exits inside loops.
+    /// Searches the declarations and statements of a block for warnings. Returns true if the last of them always leaves the block. The
+    /// analysis does not look for exits inside loops.
     #[cycle(statements)]
     pub(crate) fn look_at_block(&mut self, items: &[Item]) -> bool {
         let depth = self.known.depth();
@@ -102,7 +102,7 @@ impl Finder {
         }
     }
 
-    /// Examines the initial value of a local of this type.
+    /// Searches the initial value of a local of this type for warnings.
     fn look_at_initial_value(&mut self, shape: Shape, value: &Expr) {
         if shape.is_char() {
             self.look_at_byte(value);
@@ -110,7 +110,8 @@ impl Finder {
         self.look_at(value, Use::Value);
     }
 
-    /// Records facts about a local's initial value.
+    /// Records facts about a local's initial value: if it is other than `NULL`, its number of elements if it is an array, and the region of
+    /// a unique pointer.
     fn fill_from(&self, local: &mut Local, value: &Expr) {
         local.is_filled = !is_null(value);
         local.length = length_of(value);
@@ -121,7 +122,7 @@ impl Finder {
 
     // ---- statements
 
-    /// Examines a statement. Returns true if the statement always leaves its block.
+    /// Searches a statement for warnings. Returns true if the statement always leaves its block.
     #[cycle(statements)]
     fn look_at_statement(&mut self, statement: &Stmt) -> bool {
         match statement {
@@ -206,7 +207,7 @@ impl Finder {
         }
     }
 
-    /// Examines an expression that is a statement.
+    /// Searches an expression that is a statement for warnings.
     fn look_at_value(&mut self, value: &Expr) {
         let before = self.effects;
         self.look_at(value, Use::Dropped);
@@ -215,7 +216,7 @@ impl Finder {
         }
     }
 
-    /// Examines the condition of the statement at this source position.
+    /// Searches the condition of the statement at this source position for warnings.
     fn look_at_condition(&mut self, span: Span, condition: &Expr) {
         if let Expr::Assign { .. } = condition {
             self.warn(span, Warning::ConditionAssigns);
@@ -223,14 +224,14 @@ impl Finder {
         self.look_at(condition, Use::Looked);
     }
 
-    /// Examines the branch of an `if` without `else`.
+    /// Searches the branch of an `if` without `else` for warnings.
     fn look_at_branch(&mut self, then: &Stmt) {
         if let Stmt::Empty { span } = then {
             self.warn(*span, Warning::EmptyIf);
         }
     }
 
-    /// Examines the condition of the loop at this source position, and tests if the loop's body is empty.
+    /// Searches the condition of the loop at this source position for warnings, and tests if the loop's body is empty.
     fn look_at_head(&mut self, span: Span, condition: &Expr, body: &Stmt) {
         let before = self.effects;
         self.look_at_condition(span, condition);

@@ -1,4 +1,4 @@
-//! This file has the warnings, their texts, and the list of findings.
+//! This file has the kinds of warnings, their texts, and the list of the warnings found in a program.
 use cyc_words::Span;
 use std::alloc::Global;
 use std::mem::replace;
@@ -99,7 +99,7 @@ fn is_before(first: Span, second: Span) -> bool {
 #[derive(Drop)]
 pub(crate) struct Findings {
     all: Vec<Found>,
-    /// True if memory has not run out.
+    /// True if all memory allocations of this list of warnings have succeeded so far.
     pub(crate) is_whole: bool,
 }
 
@@ -111,7 +111,7 @@ impl Findings {
         }
     }
 
-    /// Returns true if the list is full and all of its findings are before this source position.
+    /// Returns true if the list of warnings is full and all of its warnings are before this source position.
     fn is_past(&self, span: Span) -> bool {
         match self.all.get(MOST_WARNINGS) {
             Some(last) => !is_before(span, last.span),
@@ -127,7 +127,7 @@ impl Findings {
         }
     }
 
-    /// Moves the last finding to its position in the order of the text.
+    /// Moves the warning that was added last to its index in the list, which is ordered by source position.
     fn put_in_order(&mut self) {
         for i in (1..self.all.len()).rev() {
             if !is_before(self.all[i].span, self.all[i - 1].span) {

@@ -108,7 +108,7 @@ pub or_false_parts : (a b : Bool) → (a || b) ≡ false → (a ≡ false) × (b
 or_false_parts true b none = absurd (let e : true ≡ false = none in cc)
 or_false_parts false b none = (refl, none)
 
--- If a disjunction is true and its first part is false, then its second part is true.
+-- If a disjunction is true and its left operand is false, then its right operand is true.
 pub or_right_without_left : (c d : Bool) → not c ≡ true → c || d ≡ true → d ≡ true
 or_right_without_left true d e h = absurd (cc)
 or_right_without_left false d e h = h

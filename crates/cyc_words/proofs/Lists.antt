@@ -17,7 +17,7 @@ drop_one_more k xs =
     let next : suc k ≡ k + 1 = omega arith in
     drop_next k xs ∙ ap (λ (n : ℕ). drop n xs) next
 
--- The item that a loop has just read is the first item of the unread rest of the list.
+-- The element that a loop reads at an index is the first element of the rest of the list from this index on.
 pub drop_read : {A : Type 0} (xs : List A) (i : ℕ) (x : A) → i < length xs → x ≡ get_or xs i x → drop i xs ≡ x ∷ drop (i + 1) xs
 drop_read xs i x lt is = drop_more xs i x lt ∙ ap (λ y. y ∷ drop (i + 1) xs) (sym is)
 
@@ -155,7 +155,7 @@ pub append_take_next : (front bytes : List ℕ) (i : ℕ) → i < length bytes �
 append_take_next front bytes i within =
     append_assoc front (take i bytes) (get_or bytes i 0 ∷ []) ∙ ap (λ l. front ++ l) (sym (take_more bytes i 0 within))
 
--- equal concatenations with first parts of equal length have equal first and second parts
+-- if two concatenations are equal and their left operands have equal length, then the left operands are equal, and so are the right ones
 pub same_fronts : {X : Type 0} (a b x y : List X) → length a ≡ length b → a ++ x ≡ b ++ y → (a ≡ b) × (x ≡ y)
 same_fronts [] [] x y len e = (refl, e)
 same_fronts [] (c ∷ b) x y len e = absurd (omega arith)

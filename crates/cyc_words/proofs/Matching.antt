@@ -22,7 +22,7 @@ module _ (above below : Machine) (m : Matching above below) where
     following = (1, next, (next, step, refl), seen);
   }
 
-  -- Says that a step of the upper machine was taken, and that its result matches this lower state.
+  -- Says that a step of the upper machine was taken, and that its result matches the given state of the lower machine.
   abbrev Matched : above.State → below.State → Type 0
   Matched s t = (next : above.State) × above.Step s next × m.Matches next t
 

@@ -92,7 +92,8 @@ module _ (above below : Machine) (m : Matching above below) (steps : Steps above
   abbrev Shown : List below.Place → below.State → Type 0
   Shown met now = IsUnderWay above below before m.own start met now ⊎ IsOver above below start now
 
-  -- Says that the runs of both machines have reached states that match.
+  -- Says that a path of the upper machine and a run of the lower machine have reached matching states. The cost of the lower run's code
+  -- positions is at most what is allowed.
   record IsMatched (places : List above.Place) (state : above.State) (met : List below.Place) (here : below.State) : Type 0 where
     pub path : Path above places start state
     pub matches : m.Matches state here
@@ -104,7 +105,8 @@ module _ (above below : Machine) (m : Matching above below) (steps : Steps above
     pub running : above.status state ≡ Running
     pub paid : (price : below.Place → ℕ) → sum_by price met + sum_by price back ≤ allowed price places + sum_by price (m.own (above.place state))
 
-  -- Says that each continuation of the lower run from matched states, with fewer than n steps, is explained by a run of the upper machine.
+  -- Says that each continuation of the lower machine's run from matched states, with fewer than n steps, corresponds to a run of the upper
+  -- machine.
   abbrev Continues : ℕ → Type 0
   Continues n = (places : List above.Place) (state : above.State) (met : List below.Place) (here : below.State) (rest : List below.Place) (now : below.State)
       → IsMatched places state met here → length rest < n → Path below rest here now → Shown (met ++ rest) now
@@ -120,7 +122,7 @@ module _ (above below : Machine) (m : Matching above below) (steps : Steps above
         omega (arith, inside.paid price, last, one);
   }
 
-  -- The lower machine's run visits the next code position that the upper machine's current step owns.
+  -- The lower machine's run visits the next of the code positions that are assigned to the upper machine's current step.
   meets : (places : List above.Place) (state : above.State) (met : List below.Place) (q r : below.Place) (back : List below.Place) → q ≡ r → IsInside places state met (q ∷ back) → IsInside places state (met ++ r ∷ []) back
   meets places state met q r back same inside = record {
     path = inside.path;
@@ -152,7 +154,8 @@ module _ (above below : Machine) (m : Matching above below) (steps : Steps above
             omega (arith, inside.paid price, first, equal);
       })
 
-  -- Moving a visited code position from the rest of the lower run to the positions met before preserves the claim about the run.
+  -- If a visited code position is counted among those visited before, and no longer among the rest, the lower run still
+  -- corresponds to an upper run.
   moved : (met : List below.Place) (r : below.Place) (rest : List below.Place) (now : below.State) → Shown ((met ++ r ∷ []) ++ rest) now → Shown (met ++ r ∷ rest) now
   moved met r rest now shown = subst (λ (l : List below.Place). Shown l now) (append_assoc met (r ∷ []) rest) shown
 
@@ -168,8 +171,8 @@ module _ (above below : Machine) (m : Matching above below) (steps : Steps above
       moved met r rest now
       (during n continues places state (met ++ r ∷ []) back all mid rest now (meets places state met q r back (sym stands ∙ met_here) inside) (goes mid step) (omega arith) path)
 
-  -- A step of the upper machine begins: if the step owns no positions of the lower machine, it is complete at
-  -- once; otherwise its first position is visited.
+  -- A step of the upper machine begins. If no code positions of the lower machine match it, the step is
+  -- complete at once; otherwise the first of them is visited.
   begins : (n : ℕ) → Continues n → (places : List above.Place) (state : above.State) (met all : List below.Place) (here : below.State) (rest : List below.Place) (now : below.State)
       → ((next : above.State) → m.weight next < m.weight state → IsMatched (places ++ above.place state ∷ []) next met here → Shown (met ++ rest) now)
       → IsInside places state met all → Comes below (IsOnTheWay above below state) (IsMatchedStep above below m state all) all here
@@ -233,7 +236,7 @@ module _ (above below : Machine) (m : Matching above below) (steps : Steps above
   continues (suc n) places state met here rest now matched short path =
       turns n (continues n) (suc (m.weight state)) places state met here rest now (omega arith) matched short path
 
-  -- The claim that each lower run is explained holds for the initial code positions, which are visited before the first match.
+  -- Before the first match, too, a lower run corresponds to a run of the upper machine, while the initial code positions are visited.
   comes_first : (met back : List below.Place) (here : below.State) (rest : List below.Place) (now : below.State) → above.status start ≡ Running
       → ((price : below.Place → ℕ) → sum_by price met + sum_by price back ≤ sum_by price before)
       → Comes below (IsOnTheWay above below start) (m.Matches start) back here → Path below rest here now → Shown (met ++ rest) now
@@ -328,8 +331,8 @@ module _ (above middle below : Machine) (before_middle : List middle.Place) (own
   together first met now (inl u) = goes first met now u (first.runs u.places u.state u.path)
   together first met now (inr o) = over met now o (first.runs o.places o.state o.path)
 
-  -- Two simulations compose. In the composition, a step owns the positions that the second simulation assigns to the
-  -- positions which the step owns in the first simulation.
+  -- Two simulations compose. The first assigns code positions of the middle machine to a step, and the second assigns code positions of the
+  -- lowest machine to these. The composition assigns the positions of the lowest machine to the step.
   pub in_a_row : Follows above middle before_middle own_middle start between → Follows middle below before_below own_below between from
       → Follows above below (before_below ++ flat_map own_below before_middle) (λ p. flat_map own_below (own_middle p)) start from
   in_a_row first second = record { runs = λ met now path. together first met now (second.runs met now path) }
@@ -430,7 +433,8 @@ module _ (above below : Machine) (laws : IsLawful above) (before : List below.Pl
   follows-never_fails n now run =
       let (met, long, path) = Path-from_run below n from now run in fails_not met now (follows.runs met now path)
 
-  -- If the number of positions that a step owns, plus the number before the first step, is bounded, then full preservation follows.
+  -- If the number of lower code positions assigned to a step, plus the number visited before the first step, has a bound, then full
+  -- preservation follows.
   pub follows-preserves : (each : ℕ) → ((p : above.Place) → length before + length (own p) ≤ each) → Preserves above below each start from
   follows-preserves each most = record {
     ahead = λ n now run.

@@ -214,7 +214,7 @@ IsHalf-high w h = omega arith
 pub IsHalf-low : (w : ℕ) → IsHalf (w % 2 ^ 16)
 IsHalf-low w = omega arith
 
--- Shifting a high half up by 16 bits and setting a low half yields the sum of the two.
+-- A bitwise OR of a high halfword, shifted left by 16 bits, and a low halfword yields the sum of both.
 pub bit_or-shl_of : (h l : ℕ) → IsHalf h → IsHalf l → bit_or (shl_of h 16) l ≡ h * 2 ^ 16 + l
 bit_or-shl_of h l hh hl =
     let whole : shl_of h 16 ≡ h * 2 ^ 16 = omega arith in

@@ -1,4 +1,5 @@
-//! Finds the file names among the words of a command line, where there may be several: those of a command, and those of `--with`.
+//! This file finds the file names among the words of a command line. Several file names may follow a command, and several may
+//! follow the option `--with`.
 use std::alloc::{AllocError, Global};
 
 /// Returns true if the command with this name accepts several files.
@@ -79,7 +80,7 @@ pub fn count_of_files(words: &[String]) -> usize {
     count
 }
 
-/// The words of a command line without its file names, and the index at which each file name can be inserted.
+/// The words of a command line without its file names, the file names, and the index at which one of them can be inserted among the words.
 #[derive(Drop)]
 pub struct Line {
     pub words: Vec<String>,

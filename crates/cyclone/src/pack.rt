@@ -9,7 +9,8 @@ const BYTES: usize = 4;
 
 const WORDS: usize = 8;
 
-/// Returns the byte that an escape sequence denotes, and the letters after the sequence, or `None` if it is not valid.
+/// Returns the byte that the escape sequence at the start of a text denotes, and the rest of the text after it.
+/// Returns `None` if the sequence is not valid.
 fn escaped(letters: &[u8]) -> Option<(u8, &[u8])> {
     match letters {
         [b'n', rest @ ..] => Some((b'\n', rest)),
@@ -79,7 +80,7 @@ impl fmt::Display for Word<'_> {
     }
 }
 
-/// Writes words with a separator between them.
+/// Bytes that are written as words of four bytes each, as constants of a program, with a separator between the words.
 #[derive(Drop)]
 struct Words<'a> {
     bytes: &'a [u8],
@@ -146,7 +147,7 @@ impl fmt::Display for Packed<'_> {
     }
 }
 
-/// Prints a text packed into words.
+/// Prints a text packed into words of four bytes, as constants for a program that prints the text.
 fn print_packed(rt: &HostRuntime, bytes: &[u8]) -> io::Result<()> {
     let mut output = Output::new(rt);
     write!(output, "{}", Packed(bytes))?;

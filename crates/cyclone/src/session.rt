@@ -212,7 +212,7 @@ fn answer_line(rt: &HostRuntime, words: Vec<String>) -> Option<Answer> {
     }
 }
 
-/// Rejects a stack that is too small, on which some text or image would crash the program.
+/// Rejects a call stack of the process that is too small, since some text or image would crash the program on it.
 fn ask_for_stack(rt: &HostRuntime) -> Result<(), Answer> {
     let limit = stack_limit(rt);
     if is_enough_stack(limit) {
@@ -234,8 +234,8 @@ pub fn serve(rt: &HostRuntime) -> Option<Answer> {
     }
 }
 
-/// Performs the request on the command line in a stack frame of its own, so that the check for a stack that is too small
-/// runs without this frame.
+/// Performs the request on the command line in a stack frame of its own, so that the check for a call stack that is too
+/// small runs without this frame.
 #[inline(never)]
 fn serve_words(rt: &HostRuntime) -> Option<Answer> {
     let answer = match read_words(rt) {

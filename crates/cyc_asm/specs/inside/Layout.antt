@@ -1,5 +1,5 @@
--- The positions of the lines of labelled code in the text: each line follows the line before it and takes as many words as its
--- translation needs. The placement of lines in the text is this project's own choice.
+-- The positions of the lines of labelled code in the text: the words of each line follow those of the line before it, as many
+-- as its translation needs. The placement of lines in the text is this project's own choice.
 use Rattle.std.specs.Prelude.{ℕ, zero, suc, ◌+◌, ◌*◌, Bool, ◌&&◌, nat_le, if◌then◌else◌, List, length, map, take, Option, Some, None, slice_get}
 use Rattle.std.specs.List.{range_with_len}
 use Rattle.cyc_machine_model.specs.State.{text_base}
@@ -20,8 +20,8 @@ is_near code from to =
     nat_le (most_before code to) (most_before code from + MAX_REACH)
     && nat_le (most_before code from) (most_before code to + MAX_REACH)
 
--- Returns the number of words of a branch or jump at its own position. If its delay slot is filled, the branch stands at the
--- previous line's position, and the instruction in the delay slot at the branch's position.
+-- Returns the number of words of a branch or jump at the position of its own line. If its delay slot is filled, the branch
+-- is one word earlier, at the previous line's position, and the instruction in the delay slot is at the branch's position.
 abbrev pub head_width : Option Instr → ℕ
 head_width (Some instruction) = 0
 head_width None = 1

@@ -111,7 +111,7 @@ Stands code words addresses number (lines.Ordinary instruction) =
     StandsOrdinary (filling code.lines (suc number)) words addresses number instruction
 Stands code words addresses number line = StandsFilled (filling code.lines number) code words addresses number line
 
--- `StandsUnless` says that an unreachable line contributes no word to the text, and that a reachable one is in the text.
+-- `StandsUnless` says that an unreachable line contributes no word to the text, and that the words of a reachable line are in the text.
 abbrev pub StandsUnless : (unreached : Bool) → Labelled → List ℕ → (ℕ → ℕ) → (number : ℕ) → Line → Type 0
 StandsUnless true code words addresses number line = addresses (suc number) ≡ addresses number
 StandsUnless false code words addresses number line = Stands code words addresses number line
@@ -122,7 +122,7 @@ stretch from zero = []
 stretch from (suc count) = from ∷ stretch (from + 4) count
 
 -- Returns the addresses of a line's own words: from its address up to the next line's. If a line's delay slot is filled, the previous
--- line owns the word of the branch or jump, and the line owns the delay slot.
+-- line owns the word of the branch or jump, and the line itself owns the word in the delay slot.
 abbrev pub own : (ℕ → ℕ) → ℕ → List ℕ
 own addresses number = stretch (addresses number) ((addresses (suc number) - addresses number) / 4)
 

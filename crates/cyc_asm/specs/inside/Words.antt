@@ -26,7 +26,7 @@ offset_of from to = if nat_lt from to then to - (from + 1) else 65535 - (from - 
 abbrev pub jump_words : JumpOp → (to : ℕ) → List ℕ
 jump_words op to = word_of (Jump op (jump_index_of (FIRST_INDEX + to))) ∷ 0 ∷ []
 
--- `IsHeadPosition` says that the branch or jump of a line may be at this position: the line's own or one word before it.
+-- `IsHeadPosition` says that the branch or jump of a line may be at this position: the position of the line itself, or one word before it.
 abbrev pub IsHeadPosition : List Line → (number from : ℕ) → Type 0
 IsHeadPosition code number from = (from ≤ position code number) × (position code number ≤ from + 1)
 

@@ -1,4 +1,5 @@
--- The costs of the elements of lists that are visited element by element, and the costs found for the size classes of unique blocks.
+-- The costs of the elements of the lists in typed trees (such as the statements of a block), which the code visits element by
+-- element. Also the costs found for the size classes of unique blocks.
 use Rattle.std.specs.Prelude.{◌≡◌, ◌<◌, ◌≤◌, ℕ, suc, ◌+◌, ◌*◌, ◌^◌, max, List, [], ◌∷◌}
 use Rattle.cyc_words.specs.Demand.{greatest_class}
 use Rattle.cyc_types.specs.TypedTrees.{Program}
@@ -13,7 +14,7 @@ use Rattle.cyc_bound.specs.declared.pages.PageBound.TheVariants as bounds
 use Rattle.cyc_bound.specs.Costs.{too_many, step_cost, expression_cost, caught_cost, items_cost, IsRunCost, StillGrow}
 use Rattle.cyc_bound.specs.Pages.{unique_pages}
 
--- the cost of one operator of a chain, with its right operand
+-- the cost of one operator in a chain such as `a + b - c`, with the operator's right operand
 abbrev pub operation_cost : Measure → (costs : List ℕ) → Operation → ℕ
 operation_cost m costs (operation.Compute w o e) = expression_cost m costs (view_expression e) + step_cost m
 operation_cost m costs (operation.Test o e) = expression_cost m costs (view_expression e) + step_cost m

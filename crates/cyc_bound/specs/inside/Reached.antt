@@ -3,7 +3,7 @@ use Rattle.std.specs.Prelude.{◌≡◌, ℕ, Bool, true, false, List, [], ◌�
 use Rattle.cyc_types.specs.TypedTrees.{Program}
 use Rattle.cyc_bound.specs.Bound.{Row}
 
--- says that each marked function is in the list of functions found
+-- says that each function marked as found is in the list of functions found
 abbrev pub AreMarked : (marks : List Bool) → (found : List ℕ) → Type 0
 AreMarked marks found = (f : ℕ) → get_or marks f false ≡ true → Contains found f
 

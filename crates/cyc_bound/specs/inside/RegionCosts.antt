@@ -30,7 +30,8 @@ abbrev pub IsOfRegions : Measure → Type 0
 IsOfRegions (measures.Uniques class) = ⊥
 IsOfRegions m = Unit {0}
 
--- says that `AreCounted` holds for the measures that determine the pages of regions
+-- says that `cost` gives the cost for each measure that determines the pages of regions, and that
+-- these costs are below the greatest counted value
 abbrev pub AreRegionsCounted : Program → (gives_back : Bool) → (cost : Measure → ℕ) → Type 0
 AreRegionsCounted program gives_back cost = (m : Measure) → IsForPages gives_back m → IsOfRegions m → IsCost program gives_back m (cost m) × (cost m < too_many)
 

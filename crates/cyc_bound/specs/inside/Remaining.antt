@@ -62,8 +62,8 @@ abbrev pub bytes_before : List Operand → ℕ
 bytes_before [] = 0
 bytes_before (v ∷ before) = following v.kind (bytes_before before)
 
--- The cost of a struct field whose value is awaited. If no value comes, the cost is one step. If
--- the value's kind is unknown, the cost is the greatest counted value.
+-- The cost of a struct field for whose value a stack entry waits. If no value is passed to the entry, the cost is one step. If the value's
+-- kind is unknown, the cost is the greatest counted value.
 abbrev pub field_awaited : Measure → (fields : Kind → ℕ) → Delivery → ℕ
 field_awaited m fields Nothing = step_cost m
 field_awaited m fields Anything = too_many

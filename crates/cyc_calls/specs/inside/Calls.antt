@@ -1,4 +1,4 @@
--- The requirements of the typing rules on a call, divided into parts.
+-- The requirements of the typing rules on a call, divided into those on regions and the others.
 use Rattle.std.specs.Prelude.{List, ◌++◌, map}
 use Rattle.cyc_syntax.specs.Symbols.{Place}
 use Rattle.cyc_syntax.specs.Trees.{Expressions}

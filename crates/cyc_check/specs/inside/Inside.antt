@@ -3,7 +3,8 @@ use Rattle.std.specs.Prelude.{◌≡◌, List, ◌++◌}
 use Rattle.cyc_types.specs.declared.scope.Scope.{Scope as Opened}
 use Rattle.cyc_types.specs.typing.Scopes.{Scope, RegionName, LocalVariable}
 
--- Returns a scope with these declarations in front of those of the scope `g`, which otherwise equals the scope `n`.
+-- Returns the scope `g` with these declarations in front of its own; the next indices and the declared region names
+-- are those of the scope `n`.
 abbrev pub extended : Scope → List LocalVariable → List RegionName → List Opened → Scope → Scope
 extended g ls ns os n = record g {
   names = ns ++ g.names;

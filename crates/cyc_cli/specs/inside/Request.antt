@@ -11,7 +11,7 @@ use Rattle.cyc_cli.specs.declared.arguments.StoreKind.{StoreKind}
 use Rattle.cyc_cli.specs.declared.arguments.StoreKind.TheVariants.{Pages, Plain}
 use Rattle.cyc_cli.specs.declared.arguments.Request.TheVariants.{Check, Compile, Run, Disassemble, Explain, Describe, Bound, Format, Pack}
 
--- Says that the instruction budget of a run is from 1 to 1,000,000,000,000.
+-- Says that the instruction budget (the greatest number of instructions) of a run is from 1 to 1,000,000,000,000.
 abbrev pub IsWithinBudget : Request → Type 0
 IsWithinBudget (Run file source store limits caps budget report peaks places) = (1 ≤ budget) × (budget ≤ 1000000000000)
 IsWithinBudget (Check source json) = Unit {0}
@@ -36,7 +36,7 @@ IsNumberIfGiven None n = n ≡ None
 abbrev pub AreLimitsOf : (List ℕ → Option (List ℕ)) → Given → Type 0
 AreLimitsOf given limits = IsNumberIfGiven (given (codes "pages")) limits.pages × IsNumberIfGiven (given (codes "calls")) limits.calls
 
--- Says that the caps on limits are the values of their options.
+-- Says that the caps (upper bounds) on the limits of pages and calls are the values of their command-line options.
 abbrev pub AreCapsOf : (List ℕ → Option (List ℕ)) → Given → Type 0
 AreCapsOf given caps = IsNumberIfGiven (given (codes "at-most-pages")) caps.pages × IsNumberIfGiven (given (codes "at-most-calls")) caps.calls
 

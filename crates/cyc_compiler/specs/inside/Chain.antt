@@ -19,7 +19,7 @@ pub record IsFunctionOf (h : Function) (r : Routine) : Type 0 where
   pub name : r.name ≡ span_of_place h.place
   pub frame : (r.frame_count ≡ frame_count h) ⊎ ((frame_count h ≤ max_frame_words) × (r.frame_count ≤ max_frame_words))
 
--- Says that the functions of two programs correspond, in order.
+-- Says that the functions of a source program and of a plain program correspond one to one, in order.
 abbrev pub AreFunctionsOf : List Function → List Routine → Type 0
 AreFunctionsOf [] [] = Unit {0}
 AreFunctionsOf (h ∷ hs) (r ∷ rs) = IsFunctionOf h r × AreFunctionsOf hs rs

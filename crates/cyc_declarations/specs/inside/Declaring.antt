@@ -20,7 +20,8 @@ pub record State : Type 0 where
 abbrev pub state_of : Declared → State
 state_of d = record { program = d.program; globals = d.globals; functions = d.functions }
 
--- the built-in declarations of a program, from its built-in regions, its struct names and the number of `main`
+-- the built-in declarations of a program, from the names of built-in regions, the names of structs, and the
+-- number that identifies the name `main`
 abbrev pub program_before : List (List ℕ) → Known → Program
 program_before texts k = record { known = k; fields = []; exceptions = exceptions_before texts; declared = declared_before texts }
 

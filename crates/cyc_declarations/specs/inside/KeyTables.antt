@@ -1,4 +1,4 @@
--- The keys of dynamic regions that the code finds among the types of a signature, and the regions of the signature's effect.
+-- The regions that have a key among the types of a signature, as the code computes them, and the regions of the signature's effect.
 use Rattle.std.specs.Prelude.{◌≡◌, ℕ, zero, suc, Bool, not, nat_eq, ◌&&◌, if◌then◌else◌, List, [], ◌∷◌, map, Option, Some, None}
 use Rattle.std.specs.List.{list_any}
 use Rattle.cyc_words.specs.declared.fault.Code.TheVariants as codes
@@ -12,7 +12,7 @@ use Rattle.cyc_types.specs.typing.Formation.{region_of, is_name_of, name_demande
 use Rattle.cyc_types.specs.typing.DeclarationRules.{has_key}
 use Rattle.cyc_declarations.specs.declared.keys.Keys.{Keys}
 
--- true if the set of keys (used to open dynamic regions) contains a key of the given region
+-- true if the set contains the given region, as one that has a key (used to open dynamic regions)
 abbrev pub has : Keys → Region → Bool
 has k Heap = k.heap
 has k Unique = k.unique
@@ -27,7 +27,8 @@ abbrev pub without : Keys → (count from : ℕ) → List Region
 without k zero n = []
 without k (suc m) n = if has k (Variable n) then without k m (suc n) else Variable n ∷ without k m (suc n)
 
--- the effect of a function (the regions that must be live at a call); an omitted effect has all the given region variables that have no key
+-- the effect of a function (the regions that must be live at a call); an omitted effect consists of all region variables in question that
+-- have no key
 abbrev pub effect_by : List RegionName → Keys → (variables : ℕ) → Option (List Named) → List Region
 effect_by names k n None = without k n 1
 effect_by names k n (Some rs) = map (region_of names) rs

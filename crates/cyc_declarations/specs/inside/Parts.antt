@@ -1,4 +1,4 @@
--- A typed program consists of its functions and of other parts (structs, exceptions, globals, `main`) that the code returns.
+-- A typed program consists of its functions and of other parts (structs, exceptions, globals, `main`), which the code returns separately.
 use Rattle.std.specs.Prelude.{List, map}
 use Rattle.cyc_syntax.specs.Trees.{Declaration}
 use Rattle.cyc_types.specs.TypedTrees.{Function, Program}
@@ -11,7 +11,8 @@ use Rattle.cyc_declarations.specs.declared.program.Parts.{Parts}
 abbrev pub program_with : Parts → List Function → Program
 program_with parts fs = record { structs = map view_struct parts.structs.items; exceptions = parts.exceptions.items; globals = map view_global parts.globals.items; functions = fs; main = parts.main }
 
--- the typed program with the given declarations and functions, from the built-in regions, the struct names and the number of `main`
+-- the typed program with the given declarations and functions, from the names of built-in regions, the names of structs, and the
+-- number that identifies `main`
 abbrev pub program_made : Known → List Declaration → List Function → Program
 program_made k tree fs = record {
   structs = struct_types (structs_of tree) (fields_of k tree);

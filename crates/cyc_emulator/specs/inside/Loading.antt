@@ -15,8 +15,8 @@ abbrev pub Loads : Result ImageContents ElfFault → Bounds → StoreState → S
 Loads (Err fault) limits store machine = ⊥
 Loads (Ok image) limits store machine = (has_outside image ≡ false) × (machine ≡ start_state image limits store)
 
--- `Declines` says why an image could not be loaded into a machine: the fault of reading, a segment outside the machine's memory,
--- or lack of memory.
+-- `Declines` says why an image could not be loaded into a machine: a fault in the image file, a segment outside the machine's
+-- memory, or lack of memory.
 abbrev pub Declines : Result ImageContents ElfFault → RunFault → Type 0
 Declines (Err fault) why = (why ≡ Elf fault) ⊎ (why ≡ Memory)
 Declines (Ok image) why = ((has_outside image ≡ true) × (why ≡ Load load.Outside)) ⊎ (why ≡ Memory)

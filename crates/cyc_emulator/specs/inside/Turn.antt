@@ -13,8 +13,8 @@ use Rattle.cyc_emulator.specs.declared.report.Peaks.{Peaks}
 use Rattle.cyc_emulator.specs.declared.report.RunFault.{RunFault}
 use Rattle.cyc_emulator.specs.declared.report.RunFault.TheVariants.{Read, Write, Memory}
 
--- `WentOn` says that an instruction emitted this event and reached this state. `WentOn` also describes the exchange of
--- bytes that follows, with the byte counts before and after it.
+-- `WentOn` says that an instruction reported this event, such as a requested byte, and reached this state. `WentOn`
+-- also describes the exchange of bytes with the devices that follows, with the byte counts before and after it.
 abbrev pub WentOn : Event → State → (machine : State) (x x' : Exchanged) (old new : Devices) → Type 0
 WentOn Ran s machine x x' old new = (machine ≡ s) × (x' ≡ x) × Rests old new
 WentOn WantsByte s machine x x' old new =

@@ -32,17 +32,17 @@ rule_no_place g p e = Part (rule g e) (λ a. Refused (fault_at codes.NotAPlace p
 abbrev pub rule_by_handle : Scope → Place → Expression → Rule Placed
 rule_by_handle g p e = Part (rule g e) (λ a. gives (by_handle g p a))
 
--- the result of one postfix after an operand that begins at position p
+-- the result of one postfix (such as `[i]` or `->f`) after an operand that begins at position p
 abbrev pub one_postfix : Scope → Place → typed.Expression → Postfix → Checked Reached
 one_postfix g p a (postfix.Index i) = and_then (run (rule g (view_expression i))) (λ b. Ok (indexed g p a (place_of (view_expression i)) (as_int b)))
 one_postfix g p a (postfix.Field f) = Ok (selected g p a (view_name f))
 
--- the result of one operation of a chain that begins at position p; its left operand has the given type, and may be only a peek (read but
--- not moved)
+-- the result of one operation of a chain that begins at position p; its left operand has the given type, and may be read without being
+-- moved
 abbrev pub one_operation : Scope → Place → Option ℕ → ValueType → BinaryOperator → Expression → Checked Joined
 one_operation g p k left o e = run (Part (operand (is_looking o) (rule g e) (rule_looked g e (rule g e))) (λ a. joined g p k left o (place_of e) (as_int a)))
 
--- the type of the left operand of an operation: the type of the chain's first operand, or of the result of the previous operations
+-- the type of an operation's left operand in a chain (as in `a + b - c`): that of the first operand, or of the previous operations
 abbrev pub left_of : ValueType → Option TyCode → ValueType
 left_of first None = first
 left_of first (Some t) = Value (view_ty t)
@@ -54,6 +54,6 @@ peeked_after k (Some t) = None
 abbrev pub view_chain : Chain → typed.Operations × Ty
 view_chain c = (view.operations_of c.operations.items, view_ty c.of_type)
 
--- the rule for the operations of a chain after its first operand; the chain begins at position p
+-- the rule for the operations of a chain (such as `a + b - c`) after its first operand; the chain begins at position p
 abbrev pub rule_rest : Scope → Place → typed.Expression → Operations → Rule typed.Expression
 rule_rest g p a os = Part (rule_chain g p (peeked_local (as_int a)) (type_of (as_int a)) os) (λ bs. gives (typed.Binary (as_int a) bs.0 bs.1))

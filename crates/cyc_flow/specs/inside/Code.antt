@@ -36,12 +36,14 @@ undone (c ∷ cs) f = with_fullness (view_fullness c.before) (undone cs f) c.num
 abbrev pub begun : Evaluation → State
 begun v = undone v.trail.items (view_state v.state)
 
--- Returns the flow state in which each changed local is lowered to its state before the change.
+-- Returns the flow state in which each changed local has the emptier of two states: its state in the given flow state and its recorded
+-- state.
 abbrev pub lowered : List Change → State → State
 lowered [] f = f
 lowered (c ∷ cs) f = lowered cs (with_fullness (lower (fullness f c.number) (view_fullness c.before)) f c.number)
 
--- Returns the flow state in which each changed local is lowered to its state (empty, lent or full) in the flow state `g`.
+-- Returns the flow state in which each changed local has the emptier of two states: its state in the given flow state and
+-- its state in the flow state `g`.
 abbrev pub lowered_to : State → List Change → State → State
 lowered_to g [] f = f
 lowered_to g (c ∷ cs) f = lowered_to g cs (with_fullness (lower (fullness f c.number) (fullness g c.number)) f c.number)
@@ -60,12 +62,13 @@ abbrev pub fault_of : Stop → Fault
 fault_of stops.Memory = memory_fault
 fault_of (stops.Refused x n) = x
 
--- `Stops` says that a fault found by the code is the fault of the rule. If memory runs out, `Stops` claims nothing.
+-- `Stops` says that the fault that the code reports is the fault that the flow rule determines. If memory runs out, `Stops` claims nothing.
 abbrev pub Stops : {Y : Type 0} → Stop → Checked Y → Type 0
 Stops stops.Memory checked = Unit {0}
 Stops (stops.Refused x n) checked = checked ≡ Err x
 
--- `Ends` says that the code continues if no fault is known, and otherwise stops with the known fault; it never runs out of memory.
+-- `Ends` says that the flow check continues if it has found no fault, and otherwise stops with the fault found; it never runs out
+-- of memory.
 abbrev pub Ends : Result (Unit {0}) Stop → Option Fault → Type 0
 Ends (Ok u) fault = fault ≡ None
 Ends (Err stops.Memory) fault = ⊥
@@ -76,13 +79,14 @@ abbrev pub Allows : Result (Unit {0}) Stop → Checked (Unit {0}) → Type 0
 Allows (Ok u) checked = checked ≡ Ok tt
 Allows (Err e) checked = Stops e checked
 
--- `Leads` says that the flow state after an expression is the rule's, that these locals are touched, and that
--- the expression began in the state `start`.
+-- `Leads` says that the code's flow state after an expression is the one that the flow rule gives, and that the expression began in the
+-- state `start`. It also says that these locals are touched (consumed, assigned or locked).
 abbrev pub Leads : Result (Unit {0}) Stop → (following : Evaluation) → Checked State → List ℕ → (start : State) → Type 0
 Leads (Ok u) v checked ns start = (checked ≡ Ok (view_state v.state)) × (v.touched.numbers.list ≡ ns) × (begun v ≡ start)
 Leads (Err e) v checked ns start = Stops e checked
 
--- `Gives` relates the code's result for a whole expression to the rule: the state after the expression, and the touched locals.
+-- `Gives` says that the code's result for a whole expression agrees with the flow rule: the flow state after the expression,
+-- and the locals touched (consumed, assigned or locked) in it.
 abbrev pub Gives : Result Tracked Stop → Checked State → List ℕ → Type 0
 Gives (Ok t) checked ns = (checked ≡ Ok (view_state t.state)) × (t.touched.numbers.list ≡ ns)
 Gives (Err e) checked ns = Stops e checked
@@ -90,12 +94,14 @@ Gives (Err e) checked ns = Stops e checked
 abbrev pub known : State → State → Known
 known f breaks = record { now = f; breaks = breaks }
 
--- `GivesKnown` relates the code's result for a statement to the rule; its last argument is the state at the breaks so far.
+-- `GivesKnown` says that the code's result for a statement agrees with the flow rule; its last argument is the flow state
+-- at the `break` statements so far.
 abbrev pub GivesKnown : Result Tracked Stop → Checked Known → List ℕ → State → Type 0
 GivesKnown (Ok t) checked ns breaks = (checked ≡ Ok (known (view_state t.state) breaks)) × (t.touched.numbers.list ≡ ns)
 GivesKnown (Err e) checked ns breaks = Stops e checked
 
--- `GivesClauses` relates the code's result for catch clauses to the rule, whatever clauses come after them.
+-- `GivesClauses` says that the code's result for the first catch clauses of a `try` agrees with the flow
+-- rule, whatever clauses come after them.
 abbrev pub GivesClauses : Around → State → Result Tracked Stop → (clauses : Clauses → Clauses) → Known → List ℕ → State → Type 0
 GivesClauses c start (Ok t) clauses k ns breaks =
     (rest : Clauses) → (run (rule_clauses c start (clauses rest) k) ≡ run (rule_clauses c start rest (known (view_state t.state) breaks))) × (touched_clauses (clauses rest) ns ≡ touched_clauses rest t.touched.numbers.list)

@@ -9,7 +9,7 @@ is_among n (m ∷ ms) = (n == m) || is_among n ms
 abbrev pub has_number : (words : List ℕ) → (n : ℕ) → Bool
 has_number ws n = has_bit (get_or ws (n / 64) 0) (n % 64)
 
--- `Stand` says that the bits set in these words are exactly those of these numbers.
+-- `Stand` says that a number is in the given list exactly if the bit with this number is set in the given words.
 abbrev pub Stand : List ℕ → List ℕ → Type 0
 Stand ws ns = (n : ℕ) → has_number ws n ≡ is_among n ns
 

@@ -1,4 +1,5 @@
--- One step in the traversal of each chain of operators, and the context of a statement: the enclosing loop and the locked locals.
+-- This file defines one step in the traversal of each chain of operators, and the context of a statement. The context consists of
+-- the enclosing loop and the locked locals (lent until a block ends).
 use Rattle.std.specs.Prelude.{ℕ, List, Option, Some}
 use Rattle.cyc_syntax.specs.inside.TreeView.{place_of_span}
 use Rattle.cyc_types.specs.declared.typed.Operation.{Operation}
@@ -27,6 +28,7 @@ touched_operation (operation.PointerPeek n o e) ns = touched (view_expression e)
 abbrev pub view_loop : LoopCode → Loop
 view_loop l = record { place = place_of_span l.span; head = view_state l.head }
 
--- Returns the context of a statement: the enclosing loop, if any, and the locals that earlier declarations and statements have locked.
+-- Returns the context of a statement: the enclosing loop, if any, and the locals that earlier declarations and statements have locked
+-- (lent until the end of a block).
 abbrev pub stands : Option Loop → List ℕ → Around
 stands l ns = record { loop = l; locks = ns }

@@ -6,7 +6,7 @@ use Rattle.cyc_flow.specs.declared.table.Marks.{Marks}
 use Rattle.cyc_flow.specs.declared.table.Table.{Table}
 use Rattle.cyc_flow.specs.inside.Bits.{has_bit}
 
--- Returns the fullness of a local, decoded from two bits: the local holds a value, and the value is not lent out.
+-- Returns the state of a local (empty, lent or full), decoded from two bits: the local holds a value, and the value is not lent out.
 abbrev pub reported : (held free : Bool) → Fullness
 reported false free = Vacant
 reported true false = Locked
@@ -42,8 +42,8 @@ view_table t = each_below (table_length t) (known_at t.marks.items)
 abbrev pub missing : Marks → Marks → ℕ
 missing m o = bit_or (bit_xor (bit_and m.held o.held) o.held) (bit_xor (bit_and m.free o.free) o.free)
 
--- `Covers` says that each local that is full in the second marks (bits of 64 locals) is full in the first, and that each local with a
--- value in the second has one in the first.
+-- `Covers` compares two pairs of words with the bits of 64 locals. Each local that is full in the second pair is full in the first,
+-- and each local with a value in the second has one in the first.
 abbrev pub Covers : Marks → Marks → Type 0
 Covers m o = (i : ℕ) → bit_at (missing m o) i ≡ 0
 

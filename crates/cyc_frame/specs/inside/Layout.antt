@@ -53,7 +53,8 @@ opens_any (i ∷ code) = opens i || opens_any code
 pub record IsFrame (r : Routine) (frame : Frame) : Type 0 where
   pub apart : (a b : ℕ) → a < r.slots → b < r.slots → slot_word frame a ≡ slot_word frame b → a ≡ b
   pub inside : (slot : ℕ) → slot < r.slots → slot_word frame slot < r.frame_count
-  -- For a function without slots, the property `inside` says nothing about `first_slot`, so this property is needed too.
+  -- The first slot's index in the frame is within the frame also for a function without slots, about which the property
+  -- `inside` says nothing.
   pub first_inside : frame.first_slot ≤ r.frame_count
   pub beside : (slot : ℕ) → slot < r.slots → slot_word frame slot ≢ frame.return_address
   pub return_inside : frame.return_address < r.frame_count

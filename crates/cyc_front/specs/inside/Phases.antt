@@ -13,7 +13,7 @@ use Rattle.cyc_front.specs.Front.{names_in}
 abbrev pub HasTokens : (text : List ℕ) → List TokenCode → Type 0
 HasTokens text tokens = lexer.IsAccepted text (map (token_of text) tokens)
 
--- Says that the tree is that of the tokens, and that it contains the texts of their names.
+-- Says that the syntax tree is that of the tokens, and that it contains the texts of the names among the tokens.
 abbrev pub HasTree : (text : List ℕ) → List TokenCode → Tree → Type 0
 HasTree text tokens tree =
     parser.IsAccepted (map (token_of text) tokens) (declarations_of tree) × (tree.names ≡ names_in (map (token_of text) tokens))

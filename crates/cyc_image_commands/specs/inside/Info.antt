@@ -7,7 +7,7 @@ use Rattle.cyc_elf.specs.declared.program_header.ProgramHeader.{ProgramHeader}
 use Rattle.cyc_elf.specs.Image.{SegmentContents, ImageContents}
 use Rattle.cyc_machine_model.specs.State.{text_base, text_end, data_base, data_end}
 
--- The data of a segment that `info` describes: its first address, its flags, and its sizes in the file and in memory.
+-- The facts about a segment that `info` prints: its first address, its flags, and its sizes in the file and in memory.
 pub record Extent : Type 0 where
   pub vaddr : ℕ
   pub flags : ℕ
@@ -17,7 +17,7 @@ pub record Extent : Type 0 where
 abbrev pub extent_of : SegmentContents → Extent
 extent_of s = record { vaddr = s.vaddr; flags = s.flags; stored = length s.bytes; size = s.size }
 
--- The data of a segment that `info` describes, computed from the segment's program header.
+-- The facts about a segment that `info` prints, computed from the segment's program header.
 abbrev pub extent_in : ProgramHeader → Extent
 extent_in h = record { vaddr = h.vaddr; flags = h.flags; stored = h.file_size; size = h.memory_size }
 
@@ -28,7 +28,7 @@ hex_of b = digit_glyph false (b / 16) ∷ digit_glyph false (b % 16) ∷ []
 abbrev pub address_text : ℕ → List ℕ
 address_text a = hex_of (a / 2 ^ 24) ++ (hex_of (a / 2 ^ 16 % 256) ++ (hex_of (a / 2 ^ 8 % 256) ++ hex_of (a % 256)))
 
--- The name of the machine's memory range in which a segment begins.
+-- The name of the machine's memory range that contains the first address of a segment.
 abbrev pub range_of : Extent → List ℕ
 range_of s =
     if nat_le text_base s.vaddr && nat_lt s.vaddr text_end then codes "text"
@@ -63,7 +63,7 @@ has_form entry segments = if entry == text_base then are_of_program segments els
 abbrev pub form_line : Bool → List ℕ
 form_line form = if form then codes "form of this compiler\n" else codes "form another\n"
 
--- The complete text of `info`, from the entry address, the segments and the note with the limits.
+-- The complete text of `info`, from the entry address, the segments, and the image's note that states its limits.
 abbrev pub reported_of : (entry : ℕ) → List Extent → Option (ℕ × ℕ) → List ℕ
 reported_of entry segments note = codes "entry at " ++ (address_text entry ++ (codes "\n" ++ (flat_map segment_line segments
     ++ (limits_line note ++ form_line (has_form entry segments)))))
@@ -71,6 +71,6 @@ reported_of entry segments note = codes "entry at " ++ (address_text entry ++ (c
 abbrev pub info_text : ImageContents → List ℕ
 info_text image = reported_of image.entry (map extent_of image.segments) image.note
 
--- The complete text of `info`, computed from an outline of the image.
+-- The complete text of `info`, computed from an image's outline (its entry address, program headers and limits).
 abbrev pub outline_text : Outline → List ℕ
 outline_text o = reported_of o.entry (map extent_in o.loads.items) o.note

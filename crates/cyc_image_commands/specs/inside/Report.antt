@@ -23,7 +23,7 @@ abbrev pub words_or_null : Option (List ℕ) → List ℕ
 words_or_null (Some words) = codes "\"" ++ (words ++ codes "\"")
 words_or_null None = codes "null"
 
--- The end of a run, as the first words of the last line that the run prints.
+-- The way in which a run ended, as the first words of the last line that the run prints.
 abbrev pub end_words : Answer → List ℕ
 end_words Done = codes "done"
 end_words (Returned value) = codes "returned"
@@ -39,7 +39,7 @@ end_words NoMemory = codes "no memory"
 end_words Usage = codes "usage"
 end_words Unformatted = codes "not formatted"
 
--- The value that `main` returned, or the int of the uncaught exception, if the run ended in this way.
+-- The value that `main` returned, or the int that the uncaught exception carries, if the run ended in this way.
 abbrev pub value_in : Answer → Option ℤ
 value_in (Returned value) = Some value
 value_in (Uncaught exception value) = Some value
@@ -55,12 +55,12 @@ abbrev pub cause_in : Answer → Option (List ℕ)
 cause_in (Trapped cause) = Some (cause_words cause)
 cause_in answer = None
 
--- The number of the rule for images that the image violates, if any.
+-- The number of the rule about image files that the image violates, if any.
 abbrev pub fault_in : Answer → Option ℕ
 fault_in (BadImage number) = Some number
 fault_in answer = None
 
--- The name of the limit that ended a run, if any.
+-- The name of the limit (such as that on pages) whose exhaustion ended a run, if any.
 abbrev pub limit_words : Option Limit → Option (List ℕ)
 limit_words (Some Limit.Calls) = Some (codes "calls")
 limit_words (Some Limit.Pages) = Some (codes "pages")
@@ -78,13 +78,14 @@ abbrev pub place_fields : Report → List ℕ
 place_fields report = codes "\"limit\":" ++ (words_or_null (limit_words report.limit)
     ++ (codes ",\"instructions\":" ++ (decimal report.count ++ (codes ",\"counter\":" ++ (decimal report.counter ++ codes ",")))))
 
--- The JSON fields about the resources used: the peaks of calls and pages, if they were counted, and the bytes read and written.
+-- The JSON fields about the resources used: the maximal numbers of active calls and pages, if they were counted, and the
+-- numbers of bytes read and written.
 abbrev pub amount_fields : Report → List ℕ
 amount_fields report = codes "\"most_calls\":" ++ (number_or_null (option_map (λ (peaks : Peaks). peaks.calls) report.peaks)
     ++ (codes ",\"most_pages\":" ++ (number_or_null (option_map (λ (peaks : Peaks). peaks.pages) report.peaks)
     ++ (codes ",\"read\":" ++ (decimal report.read ++ (codes ",\"written\":" ++ (decimal report.written ++ codes "}\n")))))))
 
--- The JSON fields of all figures; if the run has no report, each field is null.
+-- The JSON fields of all numbers in the report; if there is no report of the run, each field is null.
 abbrev pub figure_fields : Option Report → List ℕ
 figure_fields (Some report) = place_fields report ++ amount_fields report
 figure_fields None = codes "\"limit\":null,\"instructions\":null,\"counter\":null,\"most_calls\":null,\"most_pages\":null,\"read\":null,\"written\":null}\n"

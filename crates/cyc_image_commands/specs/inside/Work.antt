@@ -1,4 +1,4 @@
--- The program's answers to the commands that run, list or describe an image, stated in terms of the results of the lower layers.
+-- The program's answers to the commands that run, list or describe an image, stated in terms of the results of the crates that it uses.
 use Rattle.std.specs.Prelude.{◌≡◌, ◌⊎◌, ℕ, Bool, true, false, IfSome, is_some, List, Option, Some, None, Result, Ok, Err}
 use Rattle.std.specs.Io.KnownBytes.{Appends, Keeps}
 use Rattle.cyc_words.specs.Device.{AppendsPrefix}
@@ -24,7 +24,7 @@ abbrev pub answer_of_run : Result Report RunFault → Answer
 answer_of_run (Ok report) = answer_of_stop report.stop
 answer_of_run (Err fault) = answer_of_run_fault fault
 
--- The report of a run, if the run reached a stop.
+-- The report of a run, if the run was executed until it stopped.
 abbrev pub report_of_run : Result Report RunFault → Option Report
 report_of_run (Ok report) = Some report
 report_of_run (Err fault) = None
@@ -33,24 +33,24 @@ abbrev pub answer_of_listing : Result (Unit {0}) RunFault → Answer
 answer_of_listing (Ok done) = Done
 answer_of_listing (Err fault) = answer_of_run_fault fault
 
--- Says that each limit of a run is the given limit, else the image's, else the default, but never above its cap.
+-- Says that each limit of a run is the one that the user gives, else the image's, else the default, but never above its cap.
 abbrev pub AreLimitsFor : List ℕ → (given caps : Given) → Bounds → Type 0
 AreLimitsFor image given caps limits = (read : ImageContents) × (reading image ≡ Ok read) × (limits ≡ capped_by caps (limits_by given read.note))
 
--- Says that the answer for bytes that are not an image names the fault, unless memory ran out.
+-- Says that the answer to bytes that are not an image names the violated rule for images, unless memory ran out.
 abbrev pub AnswersNoImage : List ℕ → Answer → Type 0
 AnswersNoImage image answer = (answer ≡ NoMemory) ⊎ ((fault : ElfFault) × (reading image ≡ Err fault) × (answer ≡ answer_of_run_fault (Elf fault)))
 
--- True if the heap of a run grows on demand: the array of words grows, the pool of pages does not.
+-- True if the run's heap takes memory only when it needs it: the heap as an array of words does, the heap as a pool of pages does not.
 abbrev pub grows_in : Manner → Bool
 grows_in manner = elim manner.store [ Plain ↦ true | Pages ↦ false ]
 
--- True if the peaks of a run are counted: only with the pool of pages, and only if requested.
+-- True if the maximal numbers of active calls and pages are counted: only with the heap as a pool of pages, and only if requested.
 abbrev pub counts_peaks : Manner → Bool
 counts_peaks manner = elim manner.store [ Plain ↦ false | Pages ↦ manner.counting ]
 
--- Says that the image was run with the devices and the requested heap implementation, and that the answer and the report are those of the
--- run's outcome. The report contains peaks exactly if they were requested.
+-- Says that the image was run with the devices and the requested heap implementation, and that the answer and the report are the run's.
+-- The report contains the maximal numbers of calls and pages exactly if they were requested.
 pub record AnswersRun (image : List ℕ) (limits : Bounds) (budget : ℕ) (manner : Manner) (old new : Devices) (answer : Answer) (report : Option Report) : Type 0 where
   pub outcome : Result Report RunFault
   pub runs : AnswersAnew (grows_in manner) (reading image) limits budget old new outcome
@@ -58,7 +58,7 @@ pub record AnswersRun (image : List ℕ) (limits : Bounds) (budget : ℕ) (manne
   pub reported : report ≡ report_of_run outcome
   pub counted : IfSome report (λ r. is_some r.peaks ≡ counts_peaks manner)
 
--- Says that the image was listed to the device, and that the answer is that of the listing's outcome.
+-- Says that the instructions of the image were listed to the output device, and that the answer is that of the listing's outcome.
 pub record AnswersListing (image : List ℕ) (old new : Option (List ℕ)) (answer : Answer) : Type 0 where
   pub outcome : Result (Unit {0}) RunFault
   pub shows : Shows (reading image) old new outcome
@@ -80,7 +80,7 @@ abbrev pub AnswersInfo : (image : List ℕ) → (old new : Option (List ℕ)) �
 AnswersInfo image old new answer = Describes (reading image) old new answer
 
 -- The final answers to the commands that run, list or describe an image. Flushing does not change the written bytes. `held` are the
--- bytes in the buffer; `stuck` is true if some bytes could not be flushed when they had to be.
+-- bytes in the output buffer; `stuck` is true if some bytes could not be flushed when they had to be.
 abbrev pub EndsRun : (image : List ℕ) (limits : Bounds) (budget : ℕ) (manner : Manner) (old new : Devices) (held : List ℕ) (stuck : Bool) (last : Answer) (report : Option Report) → Type 0
 EndsRun image limits budget manner old new held stuck last report =
     (answer : Answer) × (written : Option (List ℕ))

@@ -51,7 +51,8 @@ abbrev pub changed : List Routine → List (Option Made) → List Routine
 changed [] changes = []
 changed (r ∷ routines) changes = routine_made r (first_of changes) ∷ changed routines (others changes)
 
--- The list of the `count` instructions from `index` on of a function, each recorded as its own origin, as if the code were unchanged.
+-- The list of the source instructions for `count` instructions of an unchanged function, from `index` on: each instruction is made
+-- from itself.
 abbrev pub own_origins : (number index count : ℕ) → List Origin
 own_origins number index zero = []
 own_origins number index (suc count) = origin_at number index ∷ own_origins number (suc index) count
@@ -81,12 +82,13 @@ abbrev pub left_of : Option Made → (spare : ℕ) → ℕ
 left_of (Some made) spare = made.spare
 left_of None spare = spare
 
--- Says that the replacement of a function is valid, and that the remaining functions may together still grow by `change.spare` words.
+-- Says that the replacement of a function is valid, and that the functions after it may together still grow by `change.spare` words
+-- of machine code.
 pub record IsChange (program : Program) (number spare : ℕ) (change : Option Made) : Type 0 where
   pub made : IsMadeFor program number change
   pub fits : size (routine_made (routine_at program number) change) + left_of change spare ≤ size (routine_at program number) + spare
 
--- Says that the replacements of the first functions are correct, and that the other functions may together still grow by `spare` words.
+-- Says that the replacements of the first functions are correct, and that the program may still grow by `spare` words of machine code.
 pub record AreBegun (program : Program) (room : ℕ) (changes : List (Option Made)) (spare : ℕ) : Type 0 where
   pub each : (k : ℕ) → k < length changes → IsMadeFor program k (change_at changes k)
   pub most : (sum_by size (changed program.functions changes) + spare ≤ max (sum_by size program.functions) room)
@@ -94,7 +96,7 @@ pub record AreBegun (program : Program) (room : ℕ) (changes : List (Option Mad
 
 -- ---- the origins reported for a function
 
--- The source function, and the number of instructions for which source instructions are reported.
+-- For a replaced function: its source function, and the number of its instructions for which source instructions are reported.
 pub record Note : Type 0 where
   pub given : Routine
   pub count : ℕ
@@ -106,7 +108,8 @@ note None = None
 abbrev pub notes_of : List (Option Opened) → List (Option Note)
 notes_of opened = map note opened
 
--- Says that `s` is the source function `r`, or a replacement of `r` with one reported origin for each instruction.
+-- Says that the function `s` is the source function `r`, or a replacement of `r` with one recorded source
+-- instruction for each of its instructions.
 abbrev pub IsReported : (r s : Routine) → Option Note → Type 0
 IsReported r s (Some reported) = (reported.given ≡ r) × (reported.count ≡ length s.code)
 IsReported r s None = s ≡ r

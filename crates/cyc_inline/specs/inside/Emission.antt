@@ -106,13 +106,15 @@ pub record IsOpenable (program : Program) (r : Routine) (slots : ℕ) (call : Ca
   pub room : r.slots + (routine_at program call.callee).slots ≤ slots
   pub small : call.count ≤ MOST_GROWTH
 
--- Says that `need` is what the caller needs to inline a call: slots, size, and the number of the callee's instructions placed at the call.
+-- Says that `need` states correctly, for inlining a call, the number of slots, the code size, and the number of the callee's instructions
+-- placed at the call.
 pub record IsNeed (program : Program) (r : Routine) (i : Instruction) (need : Need) : Type 0 where
   pub openable : (call : Call) → chosen_call i need.line ≡ Some call → IsOpenable program r need.slots call
   pub least : r.slots ≤ need.slots
   pub frame : need.slots + LAYOUT_WORDS ≤ MOST_FRAME_WORDS
 
--- Says that the choice `new` extends `old` by one instruction; the instruction is a call chosen for inlining, or is not chosen.
+-- Says that the list of decisions on inlining `new` extends `old` by the decision on one instruction: it is a call to be
+-- inlined, or it is not inlined.
 pub record IsChosenBy (old new : Choice) (need : Option Need) : Type 0 where
   pub line : ℕ
   pub chosen : new.chosen.items ≡ old.chosen.items ++ line ∷ []
@@ -129,11 +131,13 @@ pub record AreChosen (program : Program) (r : Routine) (chosen : List ℕ) (slot
 
 -- ---- which instructions have a duplicate
 
--- The slot of an instruction's duplicate: `wanted`, if the source function lacks this slot and the instruction may have a duplicate.
+-- The slot to which an instruction's duplicate writes: `wanted`, if the source function lacks this slot and the instruction may have
+-- a duplicate.
 abbrev pub duplicate_slot : (given slots : ℕ) → Instruction → (wanted : ℕ) → Option ℕ
 duplicate_slot given slots i wanted = if may_have_duplicate i then (if nat_le given wanted then (if nat_lt wanted slots then Some wanted else None) else None) else None
 
--- The slot of an instruction's duplicate, taken from the table of the slots that the choice requests.
+-- The slot to which an instruction's duplicate writes, taken from the table of the slots that the
+-- search for repeated expressions requested.
 abbrev pub duplicate_by : Program → (number : ℕ) → Choice → (index : ℕ) → Instruction → Option ℕ
 duplicate_by program number choice index i = duplicate_slot (routine_at program number).slots choice.slots i (place_in choice.duplicates.items index)
 
@@ -166,7 +170,8 @@ abbrev pub all_hoisted_if : (globals given slots : ℕ) → Instruction → (wan
 all_hoisted_if globals given slots i (Some wanted) = all_hoisted_of globals given slots i wanted.items
 all_hoisted_if globals given slots i None = []
 
--- The instructions hoisted before an instruction, taken from the table of the instructions that the choice requests.
+-- The instructions that are hoisted before an instruction, taken from the table of the instructions that the search
+-- for loop invariants requested.
 abbrev pub all_hoisted_by : Program → (number : ℕ) → Choice → (index : ℕ) → Instruction → List Instruction
 all_hoisted_by program number choice index i =
     all_hoisted_if (length program.globals) (routine_at program number).slots choice.slots i (slice_get choice.all_hoisted.items index)
@@ -233,7 +238,8 @@ opened_end program chosen front_at in_line index here [] = here
 opened_end program chosen front_at in_line index here (i ∷ code) =
     opened_end program chosen front_at in_line (suc index) (here + part_count program in_line (chosen_call i (place_in chosen index)) (length (front_at index i))) code
 
--- Says that the instructions put before an instruction may precede it, and that everything they name exists.
+-- Says that the instructions put before an instruction are hoisted ones or its duplicate, and that the slots
+-- and globals that they name exist.
 pub record IsFront (program : Program) (r : Routine) (slots : ℕ) (i : Instruction) (front : List Instruction) : Type 0 where
   pub each : AllByRecursion (λ (x : Instruction). (may_hoisted (length program.globals) r.slots slots x ≡ true) ⊎ IsDuplicate r.slots slots i x) front
   pub some : 0 < length front → may_follow_hoisted i ≡ true
@@ -264,12 +270,13 @@ pub record IsMade (program : Program) (number : ℕ) (s : Routine) (origins : Li
   pub routine : IsRoutine program s
   pub words : All HasWord s.code
 
--- Says that the origins are those of `count` unchanged instructions: each instruction is its own origin.
+-- Says that the list records, for `count` instructions that are left unchanged, that each is made from itself.
 pub record AreOwn (number count : ℕ) (origins : List Origin) : Type 0 where
   pub as_many : length origins ≡ count
   pub each : (k : ℕ) → k < count → slice_get origins k ≡ Some (origin_at number k)
 
--- Says that the functions are correct replacements of the first `count` functions of a program, with their origins.
+-- Says that the functions are correct replacements of the first `count` functions of a program, and that the
+-- recorded source instructions are correct.
 pub record AreFirstMade (program : Program) (count : ℕ) (routines : List Routine) (origins : List (List Origin)) : Type 0 where
   pub as_many : length routines ≡ count
   pub as_many_origins : length origins ≡ count

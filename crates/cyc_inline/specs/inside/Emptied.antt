@@ -30,7 +30,7 @@ pub record AreReached (program : Program) (reached : List Bool) : Type 0 where
   pub main : is_reached reached program.main ≡ true
   pub calls : (k : ℕ) → is_reached reached k ≡ true → (p : ℕ) (i : Instruction) → At (routine_at program k).code p i → LeadsTo reached i
 
--- Returns true if the function returns at the instruction.
+-- Returns true if executing the instruction returns from its function.
 abbrev pub returns : Instruction → Bool
 returns (instructions.Return value) = true
 returns (instructions.Finish value) = true
@@ -68,7 +68,8 @@ routines_kept (r ∷ routines) reached = routine_kept (first_flag reached) r ∷
 abbrev pub emptied : Program → (reached : List Bool) → Program
 emptied program reached = record program { functions = routines_kept program.functions reached }
 
--- The source instructions reported for a function of whose code only one instruction is kept.
+-- The record on a function of whose code only one instruction remains: its source function, and the
+-- number 1 of instructions whose source is reported.
 abbrev pub note_with : Option Instruction → Routine → Option Note → Option Note
 note_with (Some i) r (Some note) = Some (record { given = note.given; count = 1 })
 note_with (Some i) r None = Some (record { given = r; count = 1 })
@@ -81,7 +82,8 @@ abbrev pub notes_kept : List Routine → List (Option Note) → List Bool → Li
 notes_kept [] notes reached = []
 notes_kept (r ∷ routines) notes reached = note_kept (first_flag reached) r (first_of notes) ∷ notes_kept routines (others notes) (other_flags reached)
 
--- Says that a program is the source program without the code of unreachable functions, and that its reported origins are correct.
+-- Says that a program is the source program without the code of unreachable functions, and that the recorded source instructions
+-- are correct.
 pub record IsEmptied (given made : Inlined) : Type 0 where
   pub reached : List Bool
   pub are : AreReached given.plain reached

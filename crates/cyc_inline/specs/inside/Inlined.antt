@@ -19,8 +19,8 @@ pub record IsLike (r s : Routine) : Type 0 where
   pub frame : (s.frame_count ≡ r.frame_count) ⊎ ((r.frame_count ≤ MOST_FRAME_WORDS) × (s.frame_count ≤ MOST_FRAME_WORDS))
 
 -- Says that a program has the functions, globals and `main` of the source program, with some calls inlined. If no run of the source
--- program fails, each run of the inlined program is a run of the source program, within the same limits. The code positions made from
--- distinct positions of the source program together cost no more than the whole inlined program.
+-- program fails, each run of the inlined program is a run of the source program, within the same limits on heap pages and calls. The
+-- code positions made from distinct positions of the source program together cost no more than the whole inlined program.
 pub record IsInlined (program inlined : Program) : Type 0 where
   pub plain : IsPlain inlined
   pub as_many : length inlined.functions ≡ length program.functions

@@ -70,11 +70,12 @@ is_end instruction = None
 abbrev pub origin_at : (function index : ℕ) → Origin
 origin_at function index = record { function = function; index = index }
 
--- Says that the `count` instructions from code position `from` on have the given origin.
+-- Says that each of the `count` instructions from code position `from` on is made from the given source instruction.
 abbrev pub AreMadeOf : List Origin → (from count : ℕ) → Origin → Type 0
 AreMadeOf origins from count origin = (k : ℕ) → k < count → slice_get origins (from + k) ≡ Some origin
 
--- Says that control passes from one code position to another: they are equal, or a jump leads from the first to the second.
+-- Says that control passes from one code position to another: the positions are equal, or a jump instruction at the first
+-- leads to the second.
 abbrev pub GoesTo : List Instruction → List Origin → (from to : ℕ) → Origin → Type 0
 GoesTo code origins from to origin = (from ≡ to) ⊎ (At code from (instructions.Jump to) × AreMadeOf origins from 1 origin)
 
@@ -165,7 +166,7 @@ pub record IsHoisted (given slots : ℕ) (j : Instruction) : Type 0 where
   pub room : slot < slots
   pub is : preceded_slot j ≡ Some slot
 
--- Says that an instruction may precede another one: it is a hoisted instruction or a duplicate.
+-- Says that an instruction may be inserted before another one: it is a hoisted instruction or a duplicate of the other one.
 abbrev pub MayPrecede : (given slots : ℕ) → (i j : Instruction) → Type 0
 MayPrecede given slots i j = IsHoisted given slots j ⊎ IsDuplicate given slots i j
 
@@ -178,8 +179,8 @@ pub record IsPreceded (r s : Routine) (origins : List Origin) (function : ℕ) (
   pub made : AreMadeOf origins (place index) (suc (length front)) (origin_at function index)
   pub next : place (index + 1) ≡ place index + suc (length front)
 
--- Says that the code contains the replacement of a caller's instruction: the instruction, perhaps after others, or for a call
--- perhaps the callee's code.
+-- Says that the code contains the replacement of a caller's instruction: the instruction itself, perhaps with inserted
+-- instructions before it, or the callee's code in place of a call.
 abbrev pub StandsFor : Program → (r s : Routine) → List Origin → (function : ℕ) → (place : ℕ → ℕ) → (index : ℕ) → Instruction → Type 0
 StandsFor program r s origins function place index (instructions.Call callee arguments count result) =
     (At s.code (place index) (instructions.Call callee arguments count result) × AreMadeOf origins (place index) 1 (origin_at function index)

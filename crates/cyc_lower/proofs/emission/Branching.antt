@@ -30,8 +30,8 @@ use Rattle.cyc_lower_proof.proofs.emission.CodeLengths.{branch_same}
 
 -- ---- blocks
 
--- Returns the code of one declaration or statement of a block, without the code that closes its regions at the end of the block.
--- Between two elements of a block, the state is the exits (handlers and regions to close) and the first slot for temporaries.
+-- Returns the code of one declaration or statement of a block, without the code that closes its regions at the end of the block. The state
+-- passed from one element of a block to the next is the exits (handlers and regions to close) and the first slot for temporaries.
 abbrev pub one_item : Starts → ItemCode → List ItemCode → (p : ℕ) → Exits × ℕ → List Instruction
 one_item starts j js p s = item_code starts j p s.0 s.1
 
@@ -83,8 +83,8 @@ closed_first (suc many) t =
     ∙ ap (λ (n : ℕ). closed_code n ++ closed_items (suc many) t) e
 
 -- `ItemsRemain` says that the code so far, extended by that of the block's remaining declarations and statements, is the code of the
--- whole block. The exits and the first slot for temporaries are those of the block's next element; the frame has space for values that
--- later elements keep.
+-- whole block. The exits (handlers and regions to close) and the first slot for temporaries are those of the block's next element. The
+-- frame has space for the values that later elements of the block keep.
 abbrev pub ItemsRemain : Starts → (old : List Instruction) → List ItemCode → (first : Exits) → (free i : ℕ) → (code : List Instruction) → (inside : Exits) → (following : ℕ) → Type 0
 ItemsRemain starts old js first free i code inside following =
     Remains (opened_items starts) old js (first, free) i code (inside, following)
@@ -134,8 +134,8 @@ module _ (starts : Starts) (old : List Instruction) (js : List ItemCode) (first 
         omega (arith, begun, longer, head),
       )
 
--- `ClosesLeft` says that the code so far, extended by the closing of the regions with slots from `following` down to `free`, is the
--- whole code.
+-- `ClosesLeft` says that the code so far, extended by code that closes the lexical regions with slots from `following` down to
+-- `free`, is the whole code.
 abbrev pub ClosesLeft : (whole code : List Instruction) → (free following : ℕ) → Type 0
 ClosesLeft whole code free following = (many : ℕ) × (following ≡ free + many) × (code ++ closed_items many free ≡ whole)
 

@@ -56,7 +56,7 @@ stores_end old code kind many address offset first i done (suc left, count, made
 next_kind : (ks : List Kind) (i : ℕ) (kind : Kind) → i < length ks → kind ≡ get_or ks i kind → drop i ks ≡ kind ∷ drop (i + 1) ks
 next_kind ks i kind inside at = drop_more ks i kind inside ∙ ap (λ (k : Kind). k ∷ drop (i + 1) ks) (sym at)
 
--- Looking up an existing element of a list does not depend on the default.
+-- Looking up an existing element of a list of representation kinds does not depend on the default for a missing element.
 pub same_item : (ks : List Kind) (i : ℕ) (other : Kind) → i < length ks → get_or ks i other ≡ get_or ks i (get_or ks i other)
 same_item ks i other inside =
     let kind : Kind = get_or ks i other in
@@ -103,7 +103,8 @@ slots_next ks first i slot kind inside at left =
 
 -- ---- several cells
 
--- Returns the code that fills all cells of an object, with the next cell's byte offset and the slot of its value as the state.
+-- Returns the code that fills all cells of an object. The state passed from one cell to the next is the next cell's byte
+-- offset and the slot of its value.
 abbrev pub all_cells : (address : ℕ) → List Kind → ℕ → ℕ × ℕ → List Instruction
 all_cells address ks p s = cells_code ks address s.0 s.1
 

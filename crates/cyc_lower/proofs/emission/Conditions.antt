@@ -68,7 +68,7 @@ compares_alone starts first (operation.Compute w o e ∷ operation.PointerPeek u
 -- ---- the first slots of locals
 
 module _ (starts : Starts) where
-  -- `IsMade` says that the code of a condition is emitted and that the condition is returned.
+  -- `IsMade` says that the code of a condition is emitted, and that the comparison of two operands that decides the condition is returned.
   abbrev IsMade : (whole : Expression) → (answer : Condition) → (old new : List Instruction) → (t : ℕ) → Type 0
   IsMade whole answer old new t = (answer ≡ condition_of starts whole t) × (new ≡ old ++ condition_code starts whole (length old) t)
 
@@ -83,7 +83,8 @@ module _ (starts : Starts) where
         ∙ sym (ap (λ (x : Compared). old ++ pair_code starts x.left x.right (length old) t) is),
   )
 
-  -- If the only operator of a chain compares a pointer with null, emitting the pointer and comparing its word with 0 emits the condition.
+  -- If the only operator of an expression compares a pointer with null, emitting the pointer and comparing its word with 0 emits the
+  -- condition.
   made_nulled : (whole a : Expression) (failing : Comparison) (answer : Condition) (old new : List Instruction) (t : ℕ) → compared_of whole ≡ record { failing = failing; left = a; right = Number 0 }
       → (answer ≡ null_condition starts failing a t) × (new ≡ old ++ value_code starts a (length old) t) → IsMade whole answer old new t
   made_nulled whole a failing answer old new t is (answers, made) = (
@@ -111,7 +112,7 @@ module _ (starts : Starts) where
       subst (λ (w : Expression). IsMade w answer old new t) (sym chain)
       (made_nulled (Binary first (operations_of (y ∷ [])) ty) first failing answer old new t (null_chain first y ty failing here) made)
 
-  -- If the only operator of a chain compares two operands, the condition of the chain compares these operands.
+  -- If an expression has only one operator, which compares two operands, its condition compares these operands.
   pair_chain : (first : Expression) (x : Operation) (ty : Ty) (failing : Comparison) → null_operation x ≡ None → pair_operation x ≡ Some failing
       → compared_of (Binary first (operations_of (x ∷ [])) ty) ≡ record { failing = failing; left = first; right = right_of x }
   pair_chain first (operation.Compute w o e) ty failing none is =
@@ -158,8 +159,8 @@ module _ (starts : Starts) where
 -- ---- conditions with several operands
 
 module _ (starts : Starts) where
-  -- Returns the code of the operands of a chain after the first one; between two operands, the state is the condition of
-  -- the previous operand.
+  -- Returns the code of the operands after the first one of a chain of `&&` or `||`. The state passed on is the
+  -- comparison that decides the previous operand.
   abbrev pub all_others : LogicalOperator → (following t : ℕ) → List Operation → ℕ → Condition → List Instruction
   all_others u following t os p c = others_code starts u (operations_of os) c following p t
 
@@ -179,7 +180,8 @@ module _ (starts : Starts) where
   pub others_lower : (u : LogicalOperator) (following t : ℕ) → Lowers (all_others u following t) (one_other u following t) (next_other t)
   others_lower u following t = record { none = λ p c. refl; more = other_more u following t }
 
-  -- `OthersRemain` says that the operands visited so far have been emitted, and that `c` is the condition of the last one.
+  -- `OthersRemain` says that the operands of a chain of `&&` or `||` visited so far have been emitted, and that the
+  -- comparison `c` decides the last one.
   abbrev pub OthersRemain : LogicalOperator → Expression → List Operation → (following t : ℕ) → (old : List Instruction) → (i : ℕ) → (code : List Instruction) → Condition → Type 0
   OthersRemain u a os following t old i code c =
       Remains (all_others u following t) (old ++ condition_code starts a (length old) t) os (condition_of starts a t) i code c
@@ -194,7 +196,7 @@ module _ (starts : Starts) where
     omega (arith, low, no_shorter_than old _ code made),
   )
 
-  -- The condition of a chain's last operand stays the same if one operand of the chain is handled before the remaining ones.
+  -- The comparison that decides the last operand of an operator chain stays the same if one operand is handled before the remaining ones.
   last_more : (o : Operation) (os : List Operation) (c : Condition) (t : ℕ) → last_condition starts (operations_of (o ∷ os)) c t ≡ last_condition starts (operations_of os) (next_other t o os c) t
   last_more (operation.Test o e) os c t = refl
   last_more (operation.Compute w o e) os c t = refl
@@ -292,13 +294,13 @@ same_tested last again code other old new tested answers same (last_is, aims, be
   made ∙ ap (λ (l : List Instruction). old ++ l) (sym (same 0)),
 )
 
--- If no jump waits for its target, the code has no inner jumps.
+-- If code does not depend on a jump target, and no jump waits for its target, no jump of the code needs its target set.
 pub none_wait : (code : List Instruction) (early : List Pending) (place : ℕ) → early ≡ [] → Aims early (λ x. code) place
 none_wait code early place none = λ old rest target here. ap (λ (l : List Pending). failed l target (old ++ (code ++ rest))) none
 
 module _ (starts : Starts) where
-  -- `EarlyRemain` says that the jumps collected so far, extended by those of the remaining operands, are all jumps of the chain
-  -- without a target.
+  -- `EarlyRemain` says that the jumps collected so far, extended by those of the remaining operands, are all jumps of the `&&`
+  -- or `||` chain without a target.
   abbrev pub EarlyRemain : LogicalOperator → Expression → List Operation → (t : ℕ) → (old : List Instruction) → (i : ℕ) → (code : List Instruction) → Condition → List Pending → Type 0
   EarlyRemain u a os t old i code c early =
       OthersRemain starts u a os 0 t old i code c
@@ -339,7 +341,7 @@ module _ (starts : Starts) where
       let (last, made) = others_end starts u a os 0 t old i code c done remains in
       (last, sym (append-nil early) ∙ sym (ap (λ (l : List Operation). early ++ early_jumps starts u l c (length code) t) (drop_all i os done)) ∙ jumps, made)
 
-  -- The jumps collected for a chain of one logical operator are exactly those whose target must be set.
+  -- The jumps collected for a chain of only `&&` or only `||` are exactly those whose target must be set.
   others_aim : (u : LogicalOperator) (os : List Operation) (c : Condition) (t : ℕ) (old rest : List Instruction) (target : ℕ) → all_test u (operations_of os) ≡ true
       → failed (early_jumps starts u os c (length old) t) target (old ++ (others_code starts u (operations_of os) c 0 (length old) t ++ rest)) ≡ old ++ (others_code starts u (operations_of os) c target (length old) t ++ rest)
   others_aim u [] c t old rest target all = refl
@@ -429,8 +431,8 @@ module _ (starts : Starts) where
       (λ x. ap (λ (z : Expression). branch_code starts u z x p t) is ∙ ap (λ (b : Bool). if b then tests_code starts u a os x p t else choice_code starts (turned_test u) (Binary a os ty) p t) other ∙ ap (λ (z : Expression). choice_code starts (turned_test u) z p t) (sym is))
       made
 
-  -- `IsBare` says that an expression, neither a negation nor a chain of the given logical operator,
-  -- is emitted as a condition for the other one.
+  -- `IsBare` concerns a condition that is neither a negation nor a chain of the given operator (`&&` or `||`). `IsBare` says that this
+  -- condition is emitted so that a chain of the other operator is emitted operand by operand.
   abbrev pub IsBare : LogicalOperator → Expression → (t : ℕ) → Type 0
   IsBare u a t = (branch_of starts u a t ≡ choice_of starts (turned_test u) a t) × ((x p : ℕ) → branch_code starts u a x p t ≡ choice_code starts (turned_test u) a p t)
 

@@ -149,7 +149,7 @@ module _ (starts : Starts) where
         initial_by (converts_there from to) (source_of starts (Convert from to a)) (brought_code starts (Convert from to a) p d t) (brought_code starts (Convert from to a) p slot t) from to (span_of a) (converted_operand starts (Convert from to a) t) p d
         (brought_by_some (masks from to) (operand_of starts a) (expression_code starts a p d t) (expression_code starts a p (value_slot starts a t) t) (value_operand starts a t) d (expression_some a p d t))
 
-  -- Returns the code of the arguments of a call; between two arguments, the state is the slot of the next argument.
+  -- Returns the code of the arguments of a call. The state passed from one argument to the next is the slot of the next argument.
   abbrev pub all_arguments : List ConvertedCode → (p t : ℕ) → List Instruction
   all_arguments cs p t = arguments_code starts (arguments_of cs) p t
 
@@ -162,7 +162,7 @@ module _ (starts : Starts) where
   pub arguments_lower : Lowers all_arguments one_argument next_argument
   arguments_lower = record { none = λ p t. refl; more = λ x xs p t. refl }
 
-  -- Returns the code of the argument of `putchar`, as a loop over arguments whose state is the operand of the printed value.
+  -- Returns the code of the argument of `putchar`, as a loop over arguments that passes on the operand of the printed value.
   abbrev pub all_printed : ℕ → List ConvertedCode → ℕ → Operand → List Instruction
   all_printed t cs p o = printed_code starts (arguments_of cs) p t
 
@@ -183,7 +183,7 @@ module _ (starts : Starts) where
   pub printed_done : (cs : List ConvertedCode) (i : ℕ) (o : Operand) (t : ℕ) → length cs ≤ i → PrintedLeft cs i o t → o ≡ printed_operand starts (arguments_of cs) (operands.Slot t) t
   printed_done cs i o t done left = sym (ap (λ (ys : List ConvertedCode). printed_operand starts (arguments_of ys) o t) (drop_all i cs done)) ∙ left
 
-  -- Returns the code of a chain of operators; between two operators, the state is the left operand of the next operator.
+  -- Returns the code of a chain of operators. The state passed from one operator to the next is the left operand of the next operator.
   abbrev pub all_operations : (d t : ℕ) → List Operation → ℕ → Operand → List Instruction
   all_operations d t os p l = operations_code starts (operations_of os) p l d t
 
@@ -272,11 +272,11 @@ module _ (starts : Starts) where
       (e2 ∙ ap (λ (os' : List Operation). m1 ++ operations_code starts (operations_of os') (length m1) l d t) (same_others ∙ sym same) ∙ ap (λ (o : Operand). m1 ++ operations_code starts os (length m1) o d t) l_is)
       ∙ ap (λ (x : Expression). old ++ expression_code starts x (length old) d t) (sym (binary_viewed value b v ty is first at items same))
 
-  -- After the left operand of a chain is emitted, the index of the next free slot is still within the limit.
+  -- After the left operand of a chain of operators is emitted, the index of the next free slot is still within the limit.
   pub room_following : (a : Expression) (os : Operations) (old new : List Instruction) (d t : ℕ) → t ≤ most_locals + length old → new ≡ old ++ left_code starts a os (length old) d t → t ≤ most_locals + length new
   room_following a os old new d t low is = omega (arith, low, no_shorter_than old _ new is)
 
-  -- If the left operand of a chain needs code, its value is moved to the slot `left_slot`.
+  -- If the left operand of a chain of operators needs code, its value is moved to the slot `left_slot`.
   left_plain : (a : Expression) (os : List Operation) (d t to : ℕ) → takes_operand starts (operations_of os) ≡ false → (length os ≡ 0 → to ≡ d) → (0 < length os → to ≡ t)
       → (left_of starts a (operations_of os) ≡ None) × (to ≡ left_slot starts a (operations_of os) d t)
   left_plain a [] d t to plain none some = (refl, none refl)
@@ -299,7 +299,7 @@ module _ (starts : Starts) where
         is ∙ ap (λ (n : ℕ). old ++ expression_code starts a (length old) n t) slot ∙ sym (ap (λ (k : Option Operand). old ++ code_unless k (expression_code starts a (length old) there t)) unknown),
       )
 
-  -- If the left operand of a chain needs no code, it is used as an operand directly.
+  -- If the left operand of a chain of operators needs no code, it is used as an operand directly.
   pub made_left_operand : (a : Expression) (os : Operations) (old : List Instruction) (d t : ℕ) → takes_operand starts os ≡ true
       → (value_operand starts a t ≡ operand_or (left_of starts a os) (left_slot starts a os d t)) × (value_code starts a (length old) t ≡ left_code starts a os (length old) d t)
   made_left_operand a (ThenCompute o b os) old d t takes = by (is_simple starts b) takes
@@ -399,7 +399,7 @@ module _ (starts : Starts) where
       ∙ ap (λ (z : DereferenceCode). Store (view_dereference z) (view_converted b'.value) (view_value_type ty)) (sym x_at)
       ∙ ap (λ (z : ConvertedCode). Store (view_dereference x) (view_converted z) (view_value_type ty)) (sym y_at)
 
-  -- The code that checks an index compares it with a length, and a jump skips the code that chooses the exception.
+  -- The code that checks an index compares it with a length, and a jump skips the code that chooses which exception is raised.
   pub made_inside : (old new : List Instruction) (n m following here : ℕ) → following ≡ n + 3 → here ≡ length old
       → new
       ≡ old

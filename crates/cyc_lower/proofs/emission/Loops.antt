@@ -24,7 +24,7 @@ use Rattle.cyc_types.specs.declared.typed.Stmt.{Stmt}
 use Rattle.cyc_types.specs.declared.typed.Stmt.TheVariants as stmt
 use Rattle.cyc_types.specs.TypedTreeView.{view_expression, view_statement}
 
--- Setting the target of a loop's entry does not change the length of the code.
+-- Setting the target of the jump at a loop's entry does not change the length of the code.
 pub entering_keeps : (starts : Starts) (a : Expression) (code : List Instruction) (head : ℕ) (new : List Instruction) → new ≡ entered_loop starts a code head → length new ≡ length code
 entering_keeps starts a code head new is = ap length is ∙ by (is_guard starts a)
   where
@@ -86,7 +86,8 @@ module _ (guarded : Bool) (old condition : List Instruction) (jump : ℕ → Ins
       ∙ set-append_seam before y whole (instructions.Jump (length m6))
       ∙ append_assoc old first (instructions.Jump (length m6) ∷ whole)
 
-  -- The parts of a loop begin at the positions computed from the lengths of the parts before them.
+  -- The code pieces of a loop, such as its entry, body and condition, begin at positions computed from the lengths of the pieces before
+  -- them.
   pub parts_long : m1 ≡ old ++ entry 0 → m2 ≡ m1 ++ y ∷ [] → m3 ≡ m2 ++ body → m4 ≡ (if guarded then m3 else set m3 (length old) (instructions.Jump (length m3))) → m5 ≡ m4 ++ again → m6 ≡ m5 ++ test ∷ []
       → (leaving : ℕ) → leaving ≡ length old + entry_length guarded condition
       → (length m1 ≡ leaving) × (length m2 ≡ body_target leaving) × (length m3 ≡ body_target leaving + length body) × (length m4 ≡ body_target leaving + length body) × (length m6 ≡ body_target leaving + length body + length again + 1)

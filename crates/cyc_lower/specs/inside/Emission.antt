@@ -58,11 +58,11 @@ abbrev pub item_breaks : Item → Bool
 item_breaks (item.Execute s) = breaks (view_statement s)
 item_breaks i = false
 
--- `IsChain` says that an expression is the chain of these operators after the first operand.
+-- `IsChain` says that an expression consists of a first operand followed by these operators with their right operands.
 abbrev pub IsChain : (whole first : Expression) → Operations → Type 0
 IsChain whole first os = (ty : Ty) × (whole ≡ Binary first os ty)
 
--- Returns true if an operation of a chain applies the given logical operator.
+-- Returns true if an operator of a chain, with its right operand, is the given logical operator (`&&` or `||`).
 abbrev pub is_test : LogicalOperator → Operation → Bool
 is_test u (operation.Test o e) = is_same u o
 is_test u o = false
@@ -97,13 +97,14 @@ abbrev pub AreBefore : List Pending → (place : ℕ) → Type 0
 AreBefore [] place = Unit {0}
 AreBefore (j ∷ js) place = (j.place < place) × AreBefore js place
 
--- `Aims` says that setting the targets of these jumps turns code for target 0 into code for any other target, if the code
--- begins at this position.
+-- `Aims` concerns the code of a condition that begins at this position and was emitted with jump target 0. `Aims` says
+-- that setting the targets of these jumps gives the code that is emitted with any other target.
 abbrev pub Aims : List Pending → (code : ℕ → List Instruction) → (place : ℕ) → Type 0
 Aims early code place =
     (old rest : List Instruction) (target : ℕ) → length old ≡ place → failed early target (old ++ (code 0 ++ rest)) ≡ old ++ (code target ++ rest)
 
--- `IsTested` says that the condition of a branch is emitted, with target 0 for its inner jumps, and that these jumps are returned.
+-- `IsTested` says that the condition of a branch is emitted, with the provisional target 0 for the jumps inside it, and that these
+-- jumps are returned.
 abbrev pub IsTested : Condition → (code : ℕ → List Instruction) → (old new : List Instruction) → Tested → Type 0
 IsTested last code old new tested =
     (tested.last ≡ last) × Aims tested.early.items code (length old) × AreBefore tested.early.items (length new) × (new ≡ old ++ code 0)
@@ -147,7 +148,7 @@ module _ (starts : Starts) where
       code_unless_slot (source_of starts (Convert from to a)) (brought_code starts (Convert from to a) p t t)
       ++ conversion_code starts from to (span_of a) (Slot (slot_or (source_of starts (Convert from to a)) t)) (p + length (code_unless_slot (source_of starts (Convert from to a)) (brought_code starts (Convert from to a) p t t)))
 
-  -- Returns the code that moves the left operand of a chain to its slot.
+  -- Returns the code that moves the left operand of a chain of operators to its slot.
   abbrev pub left_code : Expression → Operations → (p d t : ℕ) → List Instruction
   left_code a os p d t = code_unless (left_of starts a os) (expression_code starts a p (left_slot starts a os d t) t)
 
@@ -182,14 +183,15 @@ module _ (starts : Starts) where
   other_condition (operation.Test o e) c t = condition_of starts (view_expression e) t
   other_condition o c t = c
 
-  -- Returns the jumps of a chain of one logical operator. Each jump is at the position after the operand that it tests.
+  -- Returns the jumps of a chain of only `&&` or only `||`. Each jump is at the position after the operand that it tests.
   abbrev pub early_jumps : LogicalOperator → List Operation → Condition → (p t : ℕ) → List Pending
   early_jumps u [] c p t = []
   early_jumps u (o ∷ os) c p t =
       record { place = p; condition = deciding_condition u c }
       ∷ early_jumps u os (other_condition o c t) (p + length (other_code u o c 0 p t)) t
 
-  -- `IsEarly` says that the code of a chain of one logical operator is emitted while the target of its deciding jumps is unknown.
+  -- `IsEarly` concerns the code of a chain of `&&` or `||`. `IsEarly` says that this code is emitted while the target of the
+  -- jumps taken when an operand decides the result is unknown.
   abbrev pub IsEarly : LogicalOperator → Expression → List Operation → (t : ℕ) → (old new : List Instruction) → Tested → Type 0
   IsEarly u a os t old new tested =
       (tested.last ≡ last_condition starts (operations_of os) (condition_of starts a t) t)
@@ -230,7 +232,7 @@ module _ (starts : Starts) where
       (default : Clauses)
       → new ++ clauses_code starts default (length new) out exits t ≡ old ++ clauses_code starts (clauses_of cs default) (length old) out exits t
 
-  -- Returns the beginning of a loop while the position of the condition after its body is unknown.
+  -- Returns the code at the beginning of a loop, emitted while the position of the condition after the loop's body is unknown.
   abbrev pub begun_loop : Expression → (p t : ℕ) → List Instruction
   begun_loop a p t = entry_code (is_guard starts a) (choice_code starts logical.AndThen a p t) (holding_jump (choice_of starts logical.AndThen a t)) 0 p
 

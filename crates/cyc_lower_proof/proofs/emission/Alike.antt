@@ -1,5 +1,5 @@
 -- This file compares two versions of a piece of code, emitted for two positions of the blocks that raise exceptions. Each instruction is
--- equal in both versions of the code, or it jumps into the exception blocks, equally far past their start in each version.
+-- equal in both versions, or it jumps into the blocks that raise exceptions, equally far past their start in each version.
 use Rattle.std.proofs.Common.{◌≡◌, ℕ, zero, suc, get_or, set, add-one, ◌+◌, ◌<◌, ◌≤◌, ◌⊎◌, inl, inr, Bool, true, false, List, [], ◌∷◌, ◌++◌, length, Option, None, Some, refl, sym, ap, subst, ◌∙◌, arith}
 use Rattle.std.specs.Prelude.{if◌then◌else◌}
 use Rattle.cyc_plain.specs.declared.instruction.Operand.{Operand}
@@ -43,8 +43,8 @@ module _ (far near : ℕ) where
   each_joined (i ∷ a) b [] y first second = absurd first
   each_joined (i ∷ a) b (j ∷ x) y (one, rest) second = (one, each_joined a b x y rest second)
 
-  -- If an instruction's jump target is adjusted to the other position of the exception blocks, then the
-  -- result equals the instruction emitted for that position.
+  -- If an instruction's jump target is adjusted to another position of the blocks that raise exceptions, then the result equals the
+  -- instruction emitted for that position.
   one_turned : (i j k : Instruction) → target_of k ≤ far → IsAlike far near i k → IsTurned far near i j → j ≡ k
   one_turned i j k low one (beyond, before) = elim one [
     | inl same ↦ before (omega (arith, low, ap target_of same)) ∙ same
@@ -78,7 +78,8 @@ still {far} {near} {a} {x} is = subst (λ (z : List Instruction). AreAlike far n
 pub alike_joined : {far near : ℕ} (a b x y : List Instruction) → AreAlike far near a x → AreAlike far near b y → AreAlike far near (a ++ b) (x ++ y)
 alike_joined {far} {near} a b x y first second = record { each = each_joined far near a b x y first.each second.each }
 
--- If two versions of some code that differ only in jumps to exception blocks begin at one position, then they also end at one position.
+-- If two versions of some code that differ only in jumps to the blocks that raise exceptions begin at one position, then they also end
+-- at one position.
 pub onward : {far near p q : ℕ} (a b x y : List Instruction) → p ≡ q → AreAlike far near a x → (p + length a ≡ q + length x → AreAlike far near b y) → AreAlike far near (a ++ b) (x ++ y)
 onward {far} {near} a b x y place first second = alike_joined a b x y first (second (λ i. place i + same_length first i))
 
@@ -173,8 +174,8 @@ module _ (far near : ℕ) where
 
 -- ---- adjusting instructions one by one
 
--- Says that the first n instructions of the new code have adjusted jump targets, and that the other
--- instructions equal those of the old code.
+-- Says that the first n instructions of the new code are those of the old code with jump targets adjusted to the final position of the
+-- blocks that raise exceptions. All other instructions of the new code equal those of the old code.
 abbrev pub TurnedTo : (far near n : ℕ) → (old new : List Instruction) → Type 0
 TurnedTo far near zero old new = new ≡ old
 TurnedTo far near (suc n) [] new = new ≡ []

@@ -30,7 +30,8 @@ taken_after [] more n = ap (λ (m : ℕ). take m more) (let e : 0 + n ≡ n = om
 taken_after (i ∷ old) more n =
     ap (λ (m : ℕ). take m (i ∷ (old ++ more))) (let e : suc (length old) + n ≡ suc (length old + n) = omega arith in e) ∙ ap (λ (l : List Instruction). i ∷ l) (taken_after old more n)
 
--- All exception blocks are emitted, and the blocks after the last jump target are removed again.
+-- All blocks that raise exceptions are emitted after a function's body, and those after the last one that is a jump target are removed
+-- again.
 pub some_blocks : (body ended all code : List Instruction) (slot count kept end : ℕ) → ended ≡ body ++ instructions.Finish slot ∷ [] → all ≡ ended ++ blocks slot → kept ≡ blocks_kept (min count 6) → end ≡ length ended + kept → code ≡ take end all
     → code ≡ with_blocks body slot (blocks_kept count)
 some_blocks body ended all code slot count kept end ended_is all_is kept_is end_is code_is =
@@ -74,13 +75,15 @@ module _ (slot n : ℕ) where
   leads_before (j ∷ body) zero i there some = omega arith
   leads_before (j ∷ body) (suc p) i there some = omega (arith, leads_before body p i there some)
 
--- Each jump to the position of an exception block reaches that block, and each jump comes before the exception blocks.
+-- Each jump to the position of a block that raises an exception reaches that block. Each such jump comes before the
+-- blocks that raise exceptions.
 pub record BlocksStand (code : List Instruction) (raises slot : ℕ) : Type 0 where
   pub each : (p tag : ℕ) (i : Instruction) → 1 ≤ tag → tag ≤ 4 → At code p i → target_of i ≡ raises + 2 + tag → At code (raises + 2 + tag) (raising tag)
   pub reported : (p : ℕ) (i : Instruction) → At code p i → target_of i ≡ raises + 1 → HasAt code (raises + 1) (telling slot)
   pub within : (p : ℕ) (i : Instruction) → At code p i → 1 ≤ target_of i → p < raises
 
--- The exception block with a given index exists if more exception blocks than this index are kept.
+-- The instruction with a given index in the blocks that raise exceptions exists if more than this
+-- number of their instructions are kept at the end of the function.
 block_there : (code : List Instruction) (p slot n number : ℕ) (i : Instruction) → HasAt code p (take n (blocks slot)) → number < n → At (blocks slot) number i → At code (p + number) i
 block_there code p slot n number i has some is = taken_there (blocks slot) p n number has some is
   where

@@ -19,7 +19,7 @@ over_length_is true target = refl
 over_length_is false target = refl
 
 module _ (starts : Starts) where
-  -- The length of the code for the further operands of a logical chain does not depend on the jump targets.
+  -- The length of the code for the operands after the first one in a chain of `&&` or of `||` does not depend on the jump targets.
   others_same : (u : LogicalOperator) (os : Operations) (c : Condition) (x y p t : ℕ) → length (others_code starts u os c x p t) ≡ length (others_code starts u os c y p t)
   others_same u NoOperations c x y p t = refl
   others_same u (ThenTest o b os) c x y p t =

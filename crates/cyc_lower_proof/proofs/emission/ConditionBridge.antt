@@ -75,7 +75,8 @@ module _ (code : List Instruction) (b : Numbering) (types : Types) (raised : Blo
   all_through (ThenPointer o c os) f h t all = absurd (let z : false ≡ true = all in cc)
   all_through (ThenPointerPeek n o c os) f h t all = absurd (let z : false ≡ true = all in cc)
 
-  -- The code of a condition: the code of its further operands begins at position p, and the jump for the last operand is at position q.
+  -- The code of a condition that may be a chain of `&&` or of `||`: the code of the operands after the first one begins at position p,
+  -- and the jump for the last operand is at position q.
   others_stand : (os : Operations) (ty : Ty) (words : ℕ) (o : Condition) (f t p q : ℕ) → all_test logical.OrElse os ≡ true → FitOperations b types words ty os
       → p + length (others_code (starts_of types) logical.OrElse os o (q + 1) p t) ≡ q → HasAt code p (others_code (starts_of types) logical.OrElse os o (q + 1) p t)
       → At code q (failing_jump (last_condition (starts_of types) os o t) f)

@@ -1,5 +1,6 @@
--- Code depends on the position of the blocks that raise exceptions only through jumps to them. The code emitted for a far position of the
--- blocks has the length of the final code. Adjusting the jumps past the far position turns this code into the final code.
+-- Code depends on the position of the blocks that raise exceptions only through jumps to them. The code is first emitted as if these
+-- blocks were far away, and has the length of the final code. Adjusting the jumps to the blocks from the far position to the real
+-- position turns this code into the final code.
 use Rattle.cyc_types.specs.typing.Expressions.{type_of_side}
 use Rattle.std.proofs.Common.{◌≡◌, ◌∙◌, ℕ, zero, suc, ◌+◌, ◌-◌, Bool, true, false, List, [], ◌∷◌, ◌++◌, length, Option, None, Some, refl, sym, ap, arith}
 use Rattle.std.specs.Prelude.{if◌then◌else◌, is_some, ◌&&◌, ◌||◌, not}
@@ -56,7 +57,7 @@ module _ (starts : Starts) (raises : ℕ) where
   abbrev Alike : (a x : List Instruction) → Type 0
   Alike a x = AreAlike starts.raises raises a x
 
-  -- The operand in which the value of an expression is used does not depend on the position of the blocks that raise exceptions.
+  -- The slot or constant that holds the value of an expression does not depend on the position of the blocks that raise exceptions.
 
   same_operand : (a : Expression) → operand_of starts a ≡ operand_of other a
   same_operand (Copy (Local w n) t) = refl
@@ -121,7 +122,7 @@ module _ (starts : Starts) (raises : ℕ) where
   same_printed NoArguments o r t same = same
   same_printed (MoreArguments c cs) o r t same = same_printed cs _ _ t (same_converted c t)
 
-  -- The code of a run-time check, emitted for two positions of the exception blocks, differs only in the jumps to these blocks.
+  -- The code of a run-time check is the same for two positions of the blocks that raise exceptions, except for the jumps to these blocks.
 
   guard_alike : (tag : ℕ) (failing : Comparison) (l m r s : Operand) → l ≡ m → r ≡ s → Alike (guard_code starts tag failing l r) (guard_code other tag failing m s)
   guard_alike tag failing l m r s left right =
@@ -155,7 +156,8 @@ module _ (starts : Starts) (raises : ℕ) where
   conversion_alike : (from to : Kind) (span : Option ℕ) (o r : Operand) (p q : ℕ) → o ≡ r → p ≡ q → Alike (conversion_code starts from to span o p) (conversion_code other from to span r q)
   conversion_alike from to span o r p q same place = conversion_by_alike (keeps_words from to) to span o r p q same place
 
-  -- The code of an access through a pointer, emitted for two positions of the exception blocks, differs only in the jumps to these blocks.
+  -- The code of an access through a pointer is the same for two positions of the blocks that raise exceptions, except for the jumps to
+  -- these blocks.
   inside_alike : (n m p q : ℕ) → p ≡ q → Alike (inside_code starts n m p) (inside_code other n m q)
   inside_alike n m p q place =
       let there : starts.raises + 1 - starts.raises + raises ≡ raises + 1 = omega arith in
@@ -184,7 +186,8 @@ module _ (starts : Starts) (raises : ℕ) where
   operator_alike operators.Remainder l m r s d e left right same = checked_alike operators.Remainder l m r s d e left right same
   operator_alike o l m r s d e left right same = still (λ i. instructions.Binary (binary_operator o) (same i) (left i) (right i) ∷ [])
 
-  -- The code that begins an array, emitted for two positions of the exception blocks, differs only in the jumps to these blocks.
+  -- The code that begins an array (its length check and allocation) is the same for two positions of the blocks that raise
+  -- exceptions, except for the jumps to these blocks.
   begun_alike : (handle : Operand) (kind : Kind) (t : ℕ) → Alike (begun_code starts handle kind t) (begun_code other handle kind t)
   begun_alike handle kind t =
       alike_joined (measured_code starts kind (t + 1) (t + 2) t) _ (measured_code other kind (t + 1) (t + 2) t) _ (alike_joined _ _ _ _ (guard_alike array_size comparisons.GreaterOrEqualUnsigned _ _ _ _ refl refl) (still refl)) (still refl)
@@ -194,13 +197,14 @@ module _ (starts : Starts) (raises : ℕ) where
   converted_by_alike known same a x from to span o r p q is there place first =
       onward _ _ _ _ place (unless_alike starts.raises raises known same a x is first) (λ next. conversion_alike from to span o r _ _ there next)
 
-  -- The code of an expression and of its operand, emitted for two positions of the exception
-  -- blocks, differs only in the jumps to these blocks.
+  -- The code that brings the value of an expression into a slot or constant is the same for two positions of the blocks that raise
+  -- exceptions, except for the jumps to these blocks.
   operand_alike : (a : Expression) (p q t : ℕ) → Alike (expression_code starts a p (value_slot starts a t) t) (expression_code other a q (value_slot other a t) t)
       → Alike (code_unless (operand_of starts a) (expression_code starts a p (value_slot starts a t) t)) (code_unless (operand_of other a) (expression_code other a q (value_slot other a t) t))
   operand_alike a p q t first = unless_alike starts.raises raises _ _ _ _ (same_operand a) first
 
-  -- The code of a value that is to be converted differs, for two positions of the exception blocks, only in the jumps to these blocks.
+  -- The code of a value that is to be converted is the same for two positions of the blocks that raise exceptions, except for the
+  -- jumps to these blocks.
   brought_alike : (from to : Kind) (a : Expression) (p q d e t : ℕ) → d ≡ e → Alike (expression_code starts a p (value_slot starts a t) t) (expression_code other a q (value_slot other a t) t)
       → Alike (expression_code starts a p d t) (expression_code other a q e t) → Alike (brought_code starts (Convert from to a) p d t) (brought_code other (Convert from to a) q e t)
   brought_alike from to a p q d e t same operand at_once =
@@ -353,7 +357,8 @@ module _ (starts : Starts) (raises : ℕ) where
       (expression_alike raises starts a p q _ _ t place (same_with starts raises (is_simple starts b) (is_simple (other starts raises) b) a t (same_simple starts raises b))))
       (λ next. operand_alike starts raises b _ _ (suc t) (expression_alike raises starts b _ _ _ _ (suc t) next (same_slot starts raises b (suc t))))
 
-  -- The compared operands of a condition do not depend on the position of the exception blocks.
+  -- The two operands that a condition compares, each a slot or a constant, do not depend on the position of the blocks that raise
+  -- exceptions.
 
   same_condition : (a : Expression) (t : ℕ) → condition_of starts a t ≡ condition_of (other starts raises) a t
   same_condition a t =
@@ -379,8 +384,8 @@ module _ (starts : Starts) (raises : ℕ) where
   same_branch u (Binary a os ty) t = λ i. if are_tests u os then same_last os _ _ t (same_condition a t) i else same_choice (turned_test u) (Binary a os ty) t i
   same_branch u a t = same_choice (turned_test u) a t
 
-  -- The code of the further operands of a logical chain differs, for two positions of the exception
-  -- blocks, only in the jumps to these blocks.
+  -- The code of the later operands in a chain of `&&` or `||` is the same for two positions of the blocks that raise exceptions, except for
+  -- the jumps to these blocks.
   others_alike : (u : LogicalOperator) (os : Operations) (c d : Condition) (x y p q t : ℕ) → c ≡ d → x ≡ y → p ≡ q → Alike starts raises (others_code starts u os c x p t) (others_code (other starts raises) u os d y q t)
   others_alike u NoOperations c d x y p q t same aim place = still refl
   others_alike u (ThenTest o b os) c d x y p q t same aim place =
@@ -458,7 +463,7 @@ module _ (starts : Starts) (raises : ℕ) where
   caught_alike None t = still refl
   caught_alike (Some n) t = still refl
 
-  -- `is_light`, the test if a condition is cheap, has the same result for every position of the exception blocks.
+  -- `is_light`, the test if a condition has little code, has the same result for every position of the blocks that raise exceptions.
   same_light : (a : Expression) → is_light starts a ≡ is_light (other starts raises) a
   same_light (Load (Element a i ty)) = λ k. is_some (same_operand starts raises a k) && same_simple starts raises i k
   same_light (Load x) = refl
@@ -548,8 +553,8 @@ module _ (starts : Starts) (raises : ℕ) where
         let b = caught_code (other starts raises) x t ++ items_code (other starts raises) js (q + 1 + length (caught_code (other starts raises) x t)) outs t in
         onward (clause_code tag t a p over) _ (clause_code tag t b q aim) _ place (clause_alike starts.raises raises tag t a b p q over aim place end items) (λ next. clauses_alike cs _ _ over aim exits outs t next end out)
 
--- The code of a function's body, emitted for two positions of the exception blocks, differs only in the jumps to these
--- blocks. The exception blocks come after the given code position.
+-- The code of a function's body is the same for two positions of the blocks that raise exceptions, except for the
+-- jumps to these blocks. The blocks that raise exceptions come after the given code position.
 module _ (structs : List StructType) (globals : List ℕ) (scopes : Option ℕ) (h : Function) where
   pub body_alike : (far near : ℕ) → AreAlike far near (body_code (starts_with far structs globals scopes h) h) (body_code (starts_with near structs globals scopes h) h)
   body_alike far near = items_alike (starts_with far structs globals scopes h) near h.body 0 0 outside_loops outside_loops (first_temporary h) refl refl

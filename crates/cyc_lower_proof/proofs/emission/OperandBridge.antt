@@ -53,7 +53,7 @@ cut p q a b end = omega (arith, end, length-append a b)
 module _ (code : List Instruction) (b : Numbering) (types : Types) (raised : BlocksStand code types.raises (words_of_all types.locals)) where
   -- ---- operands
 
-  -- An operand either needs no code, or its code is at this position.
+  -- Either an operand is a slot or constant that needs no instructions, or the instructions that compute it are at this position.
   pub operand_by : (known : Option Operand) (computed : Type 0) (x : List Instruction) (slot p q : ℕ) → p + length (code_unless known x) ≡ q → HasAt code p (code_unless known x)
       → (p + length x ≡ q → HasAt code p x → computed) → OperandBy code b types known computed slot (operand_or known slot) p q
   operand_by (Some o) computed x slot p q end has stands = (refl, omega (arith, end))
@@ -65,7 +65,8 @@ module _ (code : List Instruction) (b : Numbering) (types : Types) (raised : Blo
   returned_by (Some (operands.Word n)) computed x slot p q end has stands = (refl, stands end has)
   returned_by None computed x slot p q end has stands = (refl, stands end has)
 
-  -- Either the right operand of an operator needs no code, or its code is at this position and a fact about the left operand holds.
+  -- Either the right operand of an operator needs no code, or the operand's code is at this position and a given property of the
+  -- left operand holds.
   pub right_by : (known : Option Operand) (left computed : Type 0) (x : List Instruction) (slot p q : ℕ) → left → p + length (code_unless known x) ≡ q → HasAt code p (code_unless known x)
       → (p + length x ≡ q → HasAt code p x → computed) → OperandBy code b types known (left × computed) slot (operand_or known slot) p q
   right_by (Some o) left computed x slot p q there end has stands = (refl, omega (arith, end))
@@ -411,7 +412,7 @@ module _ (code : List Instruction) (b : Numbering) (types : Types) (raised : Blo
   words_kept : (from to : Kind) (a : Expression) → from ≡ given b.functions a → converts_there from to ≡ true → words_of_kind (given b.functions a) ≡ words_of_kind to
   words_kept from to a kind lands = ap words_of_kind (sym kind) ∙ as_wide from to lands
 
-  -- If an int becomes a char, then the int is used as an operand, and the code moves its low byte to a slot.
+  -- If an int becomes a char, then the int is first brought into a slot or constant, and the code moves its low byte to a slot.
   pub brought_by : (masking : Bool) (a : Expression) (d t p q : ℕ)
       → ((slot r : ℕ) → p + length (expression_code (starts_of types) a p slot t) ≡ r → HasAt code p (expression_code (starts_of types) a p slot t) → ExpressionAt code b types a slot t p r)
       → p + length (if masking then masked_by (operand_of (starts_of types) a) (expression_code (starts_of types) a p (value_slot (starts_of types) a t) t) (value_operand (starts_of types) a t) d else expression_code (starts_of types) a p d t) ≡ q

@@ -132,7 +132,7 @@ module _ (source : Program) (pages calls : ℕ) where
         recorded_at choice 3 (omega arith),
       )
 
-      -- The configuration after a `try` has opened its handler.
+      -- The configuration of the plain machine after the instruction that begins a `try` has opened the handler of the `try`.
       begun : Configuration
       begun = with_slots (at c r) kept
 

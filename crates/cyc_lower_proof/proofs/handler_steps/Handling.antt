@@ -107,7 +107,7 @@ module _ (source : Program) where
   none_left loop g slots handlers frames (CloseLexical region ∷ k) none (marked, stand) = none_left loop g slots handlers frames k none stand
   none_left loop g slots handlers frames (entry ∷ k) none stand = none_left loop g slots handlers frames k none stand
 
-  -- Says that closing the outermost handler also closes the inner ones.
+  -- Says that closing the outermost exception handler also closes the handlers inside it.
   abbrev IsClosed : (loop : Bool) → Configuration → List plain.Handler → (first : ℕ) → List Entry → Type 0
   IsClosed loop c handlers first k =
       (later : List plain.Handler) × (closes c first handlers ≡ plain.Running (advanced (record c { active = record c.active { handlers = later } })))

@@ -118,8 +118,9 @@ block_size_fits vs few =
 
 -- ---- allocation for an owner
 
--- A new object with these cells is allocated for an owner, and the allocation yields the heap state `new`. The heap store is out of
--- pages exactly if the source run is, and the heap store after the allocation is related to `new`.
+-- A new object with these cells is allocated for an owner (a region, or the unique pointer to the object), and the allocation
+-- yields the heap state `new`. The heap store is out of pages exactly if the source run is, and the heap store after the allocation
+-- is related to `new`.
 pub record Makes (t : Tables) (w : World) (s : StoreState) (owner : Owner) (handle : ℕ) (cells : List Cell) (new : World) : Type 0 where
   pub creates : created w owner cells ≡ Found new
   pub joined : new.objects ≡ w.objects ++ record { owner = owner; cells = cells } ∷ []
@@ -180,7 +181,8 @@ module _ {t : Tables} {w : World} {s : StoreState} (related : objects.Related t 
   made_for (Unique true) handle made handle_is creates = (made_unique w cells, subst (λ h. Makes t w s (Unique true) h cells (made_unique w cells)) (sym handle_is) made_alone)
   made_for (Unique false) handle made owned creates = absurd owned
 
--- If the step that allocates an object is no fault, then the allocation for the object's owner yields a new heap state.
+-- If the step that allocates an object is no fault, then the allocation for the object's owner (a region or a unique
+-- pointer) yields a new heap state.
 object_made : (a : Access World) (object : ℕ) (vs : List Kinded) (k : List Entry) (e : Environment) (w : World) → IsWell (filled a object vs k e w) → (made : World) × (a ≡ Found made)
 object_made (Found made) object vs k e w well = (made, refl)
 object_made Closed object vs k e w well = absurd (well refl)

@@ -65,7 +65,8 @@ use Rattle.cyc_lower_proof.proofs.pointer_steps.PointerSteps.{int_word}
 
 -- ---- the owner of the array
 
--- If the step that allocates an array is no fault, then the allocation for the array's owner yields a new heap state.
+-- If the step that allocates an array is no fault, then the allocation for the array's owner (a region or a unique
+-- pointer) yields a new heap state.
 array_made : (a : Access World) (object count level : ℕ) (wanted : Kind) (element : Expression) (k : List Entry) (e : Environment) (w : World)
     → IsWell (begun a object count level wanted element k e w) → (made : World) × (a ≡ Found made)
 array_made (Found made) object count level wanted element k e w well = (made, refl)
@@ -146,7 +147,7 @@ module _ (source : Program) (pages calls : ℕ) where
         × ElementsAt (code_of source c.active.function) (bounds_at source c.active.function) (types_on source c.active.function k) element wanted t d h r s q
         × LandsMade source c.active.function e.locals kinds.Fat d q c.frames k
 
-    -- The length of the array is allowed: the code computes the arguments of the allocation into slots.
+    -- If the length of the array is at most the limit, then the code computes the arguments of the allocation into slots.
     begins : (focus : Focus) (k₀ : List Entry) (n : ℕ) → step source (Running focus k₀ e w) ≡ Running (Beginning owner n level wanted element) k e w → SharedAt source pages calls k₀ e w c
         → c.active.slots t ≡ n → words_for (n * bytes_of_kind wanted) ≤ MOST_BLOCK_WORDS → Waits c.active.next → IsMatched source pages calls (Running focus k₀ e w) (plain.Running c)
     begins focus k₀ n does shared₀ is few (handle, d, h, r, s, q, owned, (m, u, (block_at, branch, raising_it, passed), count, index, size, none, sum, ask, end), level_is, elements, lands) =

@@ -121,7 +121,7 @@ module _ (source : Program) (pages calls : ℕ) where
             subst (Executes source pages calls (Running focus k e w) next []) (sym is) (goes chosen served).0,
       )))
 
-  -- Execution continues after a step that yields no value.
+  -- Execution continues after a source step that yields no value.
   pub proceeds : (t : Tables) (d : ℕ) (k : List Entry) (e : Environment) (w : World) (c : Configuration) → DataIn source t c.active.slots k e w c
       → LandsStack source c.active.function e.locals kinds.Int d c.active.next c.frames k → ProceedingAt source t k e w c
   proceeds t d k e w c facts (in_temporary least stack) = following_call kinds.Int (operands.Slot d) facts stack

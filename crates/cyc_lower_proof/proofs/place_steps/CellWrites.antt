@@ -223,7 +223,7 @@ module _ (source : Program) (pages calls : ℕ) (k : List Entry) (e : Environmen
     | inr wide ↦ in_words h alive cell wide
   ]
 
-  -- The written cell belongs to a variable of one cell.
+  -- The cell that is written is the only cell of a variable (a global or a local).
   module _ (first : offset ≡ 0) (cell : slice_get at.object.cells offset ≡ Some at.cell) (row : IsVariableRow shared.tables globals_of_source object) where
     object_there : slice_get w.objects object ≡ Some at.object
     object_there = (cell_found w object offset at found).0

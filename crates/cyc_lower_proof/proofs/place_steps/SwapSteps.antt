@@ -431,7 +431,7 @@ module _ (source : Program) (pages calls : ℕ) where
       (subst (λ p. Matches source pages calls (Running next k e w) (plain.Running (at (with_slots c (put c.active.slots d word)) p))) (sym end)
       (goes (put c.active.slots d word) (λ m out. put_elsewhere c.active.slots d word 1 m (omega arith) out) (subst (Points shared.tables object offset) (sym (put-same c.active.slots d word)) points))))
 
-  -- An operand of a swap that is a variable needs no code to be found.
+  -- An operand of a swap that is a variable needs no instructions that compute its address.
   right_there : (kind : Kind) (left : Value) (x : Option ℕ) (k : List Entry) (e : Environment) (w : World) → IsWell (finds_right_object kind left x k e w) → (object : ℕ) × (x ≡ Some object)
   right_there kind left None k e w well = absurd (well refl)
   right_there kind left (Some object) k e w well = (object, refl)

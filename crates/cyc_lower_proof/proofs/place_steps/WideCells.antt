@@ -66,7 +66,7 @@ parts_of c = record { store = c.store; globals = c.globals; slots = c.active.slo
 abbrev pub stage : Configuration → Parts → (next : ℕ) → Configuration
 stage c s next = record c { store = s.store; globals = s.globals; active = record c.active { next = next; slots = s.slots }; frames = s.frames }
 
--- Says that the heap store requests equally many pages, and that there are equally many frames, at two stages of a write.
+-- Says that at two stages of the write of a cell, the heap store requests equally many pages, and there are equally many frames of calls.
 abbrev IsAsFar : Parts → Parts → Type 0
 IsAsFar s others = (demand others.store ≡ demand s.store) × (length others.frames ≡ length s.frames)
 
@@ -476,7 +476,7 @@ module _ (source : Program) (pages calls : ℕ) (k : List Entry) (e : Environmen
   pub above_stored : (m : ℕ) → base_of source c.active.function ≤ m → stored.active.slots m ≡ c.active.slots m
   above_stored = is_saved.above
 
-  -- The stored value remains in its slots.
+  -- The value stored in a cell also remains in the slots from which it was stored.
   pub value_stays : (j : ℕ) → j < 3 → stored.active.slots (n + j) ≡ c.active.slots (n + j)
   value_stays = is_saved.value
 

@@ -34,7 +34,7 @@ use Rattle.cyc_lower_proof.proofs.relation.contents.Data.{Is-same}
 use Rattle.cyc_lower_proof.proofs.place_steps.PlaceWords.{narrow_element, byte_element, wide_element}
 use Rattle.cyc_plain.specs.inside.Operators.{truth}
 
--- The number of bytes before the cell at an index, for cells of one, four or twelve bytes.
+-- The number of bytes from the first cell to the cell at an index, for cells of one, four or twelve bytes.
 abbrev pub scaled : (bytes index : ℕ) → ℕ
 scaled bytes index = if bytes == 4 then shl_of index 2 else if bytes == 1 then index else mul_of index 12
 

@@ -42,7 +42,7 @@ use Rattle.cyc_lower_proof.proofs.value_steps.ValueWords.{branch_taken, branch_p
 
 -- ---- the words of a fat pointer
 
--- If a value is a fat pointer to an object, then its kind is the kind of three words.
+-- If a value is a fat pointer to an object, then its representation kind is the one of three machine words.
 pub fat_is : (t : Tables) (kind : Kind) (object start count index : ℕ) (words : Words) (p : ℕ) → Is t kind (Fat object start count index) words p
     → IsPartOf t object start count (words p) × (words (p + 1) ≡ count) × (words (p + 2) ≡ index)
 fat_is t kinds.Fat object start count index words p is = is

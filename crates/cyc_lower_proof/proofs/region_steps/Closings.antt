@@ -49,7 +49,7 @@ module _ (source : Program) (pages calls : ℕ) where
       → AllByRecursion (λ q. place ≢ q) (place_in source pages calls c ∷ [])
   closing_apart c slot ask place i here other = (elsewhere source pages calls place (place_in source pages calls c) i _ here ask other, tt)
 
-  -- For every choice that the heap store may make, the instruction that closes lexical regions closes them.
+  -- The instruction that closes lexical regions closes them for every result that the heap store may give.
   pub closing_executes : (focus : Focus) (k : List Entry) (e : Environment) (w : World) (next : State) (c : Configuration) (slot many q : ℕ)
       → ClosedAt (code_of source c.active.function) (bounds_at source c.active.function) (types_at source c.active.function) slot c.active.next q
       → Inside source pages calls w c → c.active.slots slot ≡ many → many ≤ lexical_count c.store.regions

@@ -75,7 +75,7 @@ module _ (source : Program) (pages calls : ℕ) where
     t = floor source c.active.function k
 
     -- The configuration after the heap store has opened a lexical region. The number of lexical regions that were open
-    -- before is in its slot.
+    -- before is in the slot that the code reserves for it.
     abbrev asked : Configuration
     asked = served_to choice c (t + 1) OpenLexical
 

@@ -1,4 +1,5 @@
--- This file proves that the code of conditions refers only to existing things and jumps only to positions inside the code.
+-- This file proves that the code of conditions refers only to slots, functions and globals that exist, and jumps only to
+-- positions inside the code.
 use Rattle.std.proofs.Common.{◌≡◌, ℕ, suc, ◌+◌, ◌≤◌, ◌<◌, Bool, true, false, List, ◌∷◌, length, Option, None, Some, slice_get, arith, length-append}
 use Rattle.cyc_types.specs.declared.typed.UnaryOperator.TheVariants as unary
 use Rattle.cyc_types.specs.Types.{Ty, words_of}
@@ -30,7 +31,8 @@ use Rattle.cyc_lower_proof.proofs.emission.CodeLengths.{tests_same}
 use Rattle.cyc_lower_proof.proofs.sizes.ExpressionRanges.{expression_in}
 
 module _ (program : PlainProgram) (r : Routine) (b : Numbering) (types : Types) (locals : (n : ℕ) → n < b.locals → slot_of (starts_of types) n + words_in types.locals n ≤ r.slots) (levels : (l slot : ℕ) → slice_get types.counters l ≡ Some slot → slot < r.slots) (globals : AreGlobals program types.globals) (called : (n : ℕ) (s : Signature) → slice_get b.functions n ≡ Some s → IsKnown program n s) (results : r.results ≡ results_of b.result) (following : HasEnd r types) where
-  -- If the code of the second compared operand refers only to existing things, then both compared operands exist in the function.
+  -- If the code of the second compared operand refers only to slots and code positions that exist, then both compared operands
+  -- exist in the function.
   pair_in : (a c : Expression) (p t : ℕ) → Fits b types a → t + expression_need a + spare_slots ≤ r.slots → p + length (pair_code (starts_of types) a c p t) < length r.code
       → (p + length (first_code (starts_of types) a c p t) + length (second_code (starts_of types) c (p + length (first_code (starts_of types) a c p t)) t) < length r.code → AreIn program r b types locals levels globals called results following (second_code (starts_of types) c (p + length (first_code (starts_of types) a c p t)) t)) → AreIn program r b types locals levels globals called results following (pair_code (starts_of types) a c p t)
   pair_in a c p t numbered few short second =

@@ -1,4 +1,4 @@
--- This file proves that the code of expressions refers only to existing things.
+-- This file proves that the code of expressions refers only to slots, functions, globals and code positions that exist.
 use Rattle.std.proofs.Common.{◌≡◌, ℕ, suc, ◌+◌, ◌≤◌, ◌<◌, [], ◌∷◌, ◌++◌, length, Option, Some, slice_get, refl, sym, ap, subst, ◌∙◌, arith, length-append}
 use Rattle.cyc_types.specs.declared.typed.Kind.{Kind}
 use Rattle.cyc_types.specs.declared.typed.Kind.TheVariants as kinds
@@ -182,7 +182,7 @@ module _ (program : PlainProgram) (r : Routine) (b : Numbering) (called : (n : �
         (unless_in program r b types locals levels globals called results following (operand_of (starts_of types) a) inner p (omega (arith, short, long)) (λ less. expression_in types locals levels globals following a p slot t numbered (slot_fits r b types locals levels a t numbered free) (omega (arith, few)) less))
         (record { answer_in_range = omega arith; first_in_range = value_in r b types locals levels a t numbered free; second_in_range = tt }, tt)
 
-    -- The code of a new object refers only to existing slots, after a region handle of this number of words. If the handle is in a slot,
+    -- The code of a new object refers only to existing slots, which come after the words of a region handle. If the handle is in a slot,
     -- then it is in the first of the slots for these words.
     made_in : (types : Types) (locals : (n : ℕ) → n < b.locals → slot_of (starts_of types) n + words_in types.locals n ≤ r.slots) (levels : (l slot : ℕ) → slice_get types.counters l ≡ Some slot → slot < r.slots) (globals : AreGlobals program types.globals) (following : HasEnd r types) → (i : Initial) (handle : Operand) (words first : ℕ) (ty : Ty) (p d t : ℕ) → FitsObject b types i → IsOperand r handle → d + words_of_kind (made_kind i) ≤ r.slots → t ≤ first + words → first + initial_value_need i words (words_of ty) ≤ r.slots → p + length (made_code (starts_of types) i handle p d t) < length r.code → AreIn program r b types locals levels globals called results following (made_code (starts_of types) i handle p d t)
     made_in types locals levels globals following (Plain kind a) handle words first ty p d t (kind_is, numbered) there room place few short =
@@ -224,7 +224,8 @@ module _ (program : PlainProgram) (r : Routine) (b : Numbering) (called : (n : �
               ((omega (arith, few, place), tt), pointer_copied program r b types locals levels globals called results following d t room (omega (arith, few, place))),
         ))
 
-    -- The code of the memory access of a value with this number of words refers only to existing things.
+    -- The code of the memory access of a value with this number of words refers only to slots, functions, globals and code positions that
+    -- exist.
     pub place_in : (types : Types) (locals : (n : ℕ) → n < b.locals → slot_of (starts_of types) n + words_in types.locals n ≤ r.slots) (levels : (l slot : ℕ) → slice_get types.counters l ≡ Some slot → slot < r.slots) (globals : AreGlobals program types.globals) (following : HasEnd r types) → (x : Dereference) (own p t : ℕ) → FitsCell b types x → 1 ≤ own → t + dereference_need x own ≤ r.slots → p + length (place_code (starts_of types) x p t) < length r.code → AreIn program r b types locals levels globals called results following (place_code (starts_of types) x p t)
     place_in types locals levels globals following (Target k a ty) own p t (pointer, kind_is, wide, numbered) some few short =
         let slot = value_slot (starts_of types) a t in

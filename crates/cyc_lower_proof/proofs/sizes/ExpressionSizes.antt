@@ -53,7 +53,7 @@ module _ (starts : Starts) where
   load_size (Local w n) t d = move_size (words_of t) d (operands.Slot (slot_of starts n)) (omega (arith, type_words t, kind_few (kind_of t)))
   load_size (Global n) t d = omega (arith, loads_size (words_of t) (global_of starts n) d, type_words t, kind_few (kind_of t))
 
-  -- The size of the code of a pointer operator, of its right operand, and of the code after it.
+  -- The size of the code of a pointer operator, together with the code of its right operand and the code that follows.
   right_size : (o : PointerOperator) (a : Expression) (p : ℕ) (l : Operand) (d t : ℕ) (back : List Instruction)
       → code_size (expression_code starts a p (value_slot starts a (after_left o t)) (after_left o t)) ≤ size_per_weight * expression_weight a
       → code_size (pointer_code o l (value_operand starts a (after_left o t)) (code_unless (operand_of starts a) (expression_code starts a p (value_slot starts a (after_left o t)) (after_left o t))) d ++ back)

@@ -48,6 +48,6 @@ is_plain source well fit light = record {
   small = omega (arith, functions_small source.structs (globals_of source) (scopes_of source) source.functions, light);
 }
 
--- The jumps in the body of each function go at most to the exception blocks after the body.
+-- The jumps in the body of each function go at most to the blocks that raise exceptions, which come after the body.
 pub closely_lowered : (source : Program) → IsWellTypedProgram source → CanBeLowered source → AreClose source.structs (globals_of source) (scopes_of source) source.functions
 closely_lowered source well fit = code_close source (is_fitting_program source fit.of_words.functions well) fit.of_words

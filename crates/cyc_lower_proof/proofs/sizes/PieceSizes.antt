@@ -372,8 +372,8 @@ marks_size : (mark : Option ℕ) → code_size (marks_code mark) ≤ 10
 marks_size None = omega arith
 marks_size (Some m) = closed_size m
 
--- The code that leaves a construct has one instruction that closes all of its handlers, if there
--- are any, and one that closes all of its regions.
+-- The code that leaves a construct has one instruction that closes all of its handlers, if there are any, and one that closes all of its
+-- regions.
 pub leave_size : (opened : Opened) → code_size (leave_code opened) ≤ 15
 leave_size opened = omega (arith, code_size-append (handlers_code opened.handler) (marks_code opened.mark), handlers_size opened.handler, marks_size opened.mark)
 

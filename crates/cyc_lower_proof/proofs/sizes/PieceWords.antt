@@ -1,4 +1,5 @@
--- The pieces of code of which expressions and statements consist contain only 32-bit words if their parts do.
+-- The pieces of code of which expressions and statements consist contain only 32-bit words if the operands
+-- and smaller pieces of code inside them do.
 use Rattle.std.proofs.Common.{◌≡◌, ℕ, zero, suc, ◌+◌, ◌*◌, ◌≤◌, max, Bool, true, false, List, [], ◌∷◌, ◌++◌, length, take, Option, None, Some, refl, arith}
 use Rattle.cyc_meaning.specs.Operators.{null_exception, division_by_zero, array_bounds}
 use Rattle.std.specs.List.{AllByRecursion}

@@ -43,7 +43,7 @@ pub results_few : (t : Option Ty) → results_of t ≤ spare_slots
 results_few None = omega arith
 results_few (Some t) = omega (arith, type_words t, kind_few (kind_of t))
 
--- A new object needs at least as many words as are held before it.
+-- The number of frame words that a new object needs is at least the number of words that earlier intermediate values already occupy.
 pub made_needs : (i : Initial) (before own : ℕ) → before ≤ initial_value_need i before own
 made_needs (Plain kind a) before own = omega arith
 made_needs (Fields cs) before own = omega arith
@@ -64,7 +64,7 @@ levels_inside r types levels slot inside l other found = elim (slice_get_last_ca
 
 -- ---- instructions
 
--- Holds if all exception blocks come after the body of the function, and a slot comes after the locals.
+-- Holds if all blocks that raise exceptions come after the body of the function, and if the function has a slot after its locals.
 abbrev pub HasEnd : Routine → Types → Type 0
 HasEnd r types = (types.raises + 6 < length r.code) × (words_of_all types.locals < r.slots)
 
@@ -105,7 +105,8 @@ takes_locals program r locals (i ∷ code) (first, rest) = (by i first, takes_lo
     by (instructions.AddressOf d slot count) (there, few, takes) = takes
     by i inside = tt
 
--- If no jump goes past the shorter code of a function, then everything to which its instructions refer still exists.
+-- If no jump goes past the end of a shortened code of a function, then every slot, function, global and position
+-- that its instructions name still exists.
 module _ (program : PlainProgram) (r : Routine) (longer : List Instruction) (locals : List Ty) (far : ℕ) (reaches : (t : ℕ) → t ≤ far → t < length longer → t < length r.code) (no_return : All (λ i. is_return i ≡ false) r.code) where
   abbrev full : Routine
   full = record r { code = longer }
@@ -154,7 +155,7 @@ module _ (program : PlainProgram) (r : Routine) (longer : List Instruction) (loc
   all_cut [] least inside = tt
   all_cut (i ∷ code) least (first, rest) = (one_cut i (omega (arith, least)) first, all_cut code (omega (arith, least)) rest)
 
--- The blocks that raise exceptions refer to nothing that may be missing, except to a slot.
+-- The blocks that raise exceptions name no function, global or code position that could be missing; they name only one slot.
 pub blocks_in : (program : PlainProgram) (r : Routine) (locals : List Ty) (slot n : ℕ) → slot < r.slots → AllByRecursion (IsIn program r locals) (take n (blocks slot))
 blocks_in program r locals slot zero room = tt
 blocks_in program r locals slot (suc zero) room = ((room, room, tt), tt)
@@ -168,7 +169,7 @@ blocks_in program r locals slot (suc (suc (suc n))) room = ((room, room, tt), ((
     by (suc (suc (suc zero))) = ((tt, tt), ((tt, tt), ((tt, tt), ((tt, tt), tt))))
     by (suc (suc (suc (suc n)))) = ((tt, tt), ((tt, tt), ((tt, tt), ((tt, tt), tt))))
 
--- At least n instructions of the exception blocks are kept, or all six.
+-- At least n instructions of the blocks that raise exceptions are kept, or all six of them if n is greater than six.
 pub blocks_many : (slot n : ℕ) → min n 6 ≤ length (take (blocks_kept n) (blocks slot))
 blocks_many slot zero = omega arith
 blocks_many slot (suc zero) = omega arith

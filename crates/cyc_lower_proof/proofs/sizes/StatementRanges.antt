@@ -1,4 +1,4 @@
--- This file proves that the code of statements refers only to existing things.
+-- This file proves that the code of statements refers only to slots, functions, globals and code positions that exist.
 use Rattle.std.proofs.Common.{◌≡◌, ℕ, zero, suc, ◌+◌, ◌≤◌, ◌<◌, Bool, true, false, List, [], ◌∷◌, ◌++◌, length, Option, None, Some, slice_get, All, refl, sym, ap, subst, ◌∙◌, arith, length-append, ◌*◌}
 use Rattle.cyc_types.specs.declared.typed.Kind.{Kind}
 use Rattle.cyc_types.specs.declared.typed.Kind.TheVariants as kinds
@@ -87,7 +87,7 @@ module _ (program : PlainProgram) (r : Routine) (b : Numbering) (types : Types) 
 
   -- ---- exits
 
-  -- Holds if the handler record or the saved region count that begins at this slot, if any, is in slots of the function.
+  -- Holds if all slots of the handler record or saved region count that begins at this slot, if there is one, exist in the function.
   abbrev IsRecord : Option ℕ → Type 0
   IsRecord None = Unit {0}
   IsRecord (Some first) = first + RECORD_WORDS ≤ r.slots

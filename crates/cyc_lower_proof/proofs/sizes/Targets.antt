@@ -1,4 +1,4 @@
--- The jumps in the body of a well-formed function go at most to the exception blocks after the body.
+-- The jumps in the body of a well-formed function go at most to the blocks that raise exceptions, which come after the body.
 use Rattle.std.proofs.Common.{ℕ, zero, suc, ◌-◌, ◌≤◌, List, [], ◌∷◌, ◌++◌, length, map, take, Option, All, subst, arith, length-append, length-take}
 use Rattle.std.specs.List.{AllByRecursion}
 use Rattle.std.proofs.lemmas.Option.{same_Some, none-some}

@@ -1,4 +1,5 @@
--- This file proves that the code of values, pointers, memory accesses and objects refers only to existing things.
+-- This file proves that the code of values, pointers, memory accesses and objects refers only to slots, globals
+-- and code positions that exist.
 use Rattle.std.proofs.Common.{◌≡◌, ℕ, zero, suc, ◌+◌, ◌≤◌, ◌<◌, Bool, true, false, List, [], ◌∷◌, ◌++◌, length, Option, None, Some, slice_get, refl, sym, ap, subst, ◌∙◌, arith, length-append, inl, inr}
 use Rattle.std.specs.List.{AllByRecursion}
 use Rattle.cyc_types.specs.declared.typed.Kind.{Kind}
@@ -56,7 +57,8 @@ module _ (program : PlainProgram) (r : Routine) (b : Numbering) (types : Types) 
   pub append : (x y : List Instruction) → AreIn x → AreIn y → AreIn (x ++ y)
   append x y first rest = all_append (IsIn program r types.locals) x y first rest
 
-  -- If code is omitted because an operand needs no code, then this code need not refer to existing things.
+  -- If code is omitted because an operand needs no code, then nothing must be shown about the slots and
+  -- positions to which this code would refer.
   pub unless_in : (known : Option Operand) (x : List Instruction) (p : ℕ) → p + length (code_unless known x) < length r.code → (p + length x < length r.code → AreIn x) → AreIn (code_unless known x)
   unless_in (Some o) x p short inside = tt
   unless_in None x p short inside = inside short

@@ -1,4 +1,5 @@
--- The lowered program is well-formed: its instructions refer only to existing things, and its frames have enough words for all slots.
+-- The lowered program is well-formed: its instructions refer only to slots, functions, globals and code positions that exist, and its
+-- frames have enough words for all slots.
 use Rattle.std.proofs.Common.{◌≡◌, ℕ, zero, suc, ◌≤◌, ◌<◌, ◌-◌, true, false, List, [], ◌∷◌, length, map, take, Option, Some, slice_get, slice_index_or, refl, ap, arith, length-append}
 use Rattle.std.specs.List.{AllByRecursion}
 use Rattle.std.proofs.lemmas.Option.{same_Some, none-some}
@@ -50,7 +51,7 @@ module _ (source : Program) (is_fitting : IsFitting source) where
     room = omega (arith, global_words_counted source.globals);
   }
 
-  -- All instructions of the code of a function are in range, that is, they refer only to existing things.
+  -- All instructions of the code of a function are in range: they refer only to slots, functions, globals and code positions that exist.
   code_in : (h : Function) → AreOfWordsItems h.body → FitItems (numbering_of (length source.globals) (signatures_of source.functions) h) (types_of source.structs (global_types source.globals) (scopes_of source) h) false h.body
       → AllByRecursion (IsIn (lower_program source) (lower_function source.structs (globals_of source) (scopes_of source) h) (slot_types h)) (function_code source.structs (globals_of source) (scopes_of source) h)
   code_in h words numbered_body =
@@ -99,7 +100,7 @@ module _ (source : Program) (is_fitting : IsFitting source) where
   functions_well [] words numbered_all = tt
   functions_well (h ∷ hs) (own, others) (first, rest) = (function_well h own first, functions_well hs others rest)
 
-  -- The jumps in the body of each function go at most to the exception blocks after the body.
+  -- The jumps in the body of each function go at most to the blocks that raise exceptions, which come after the body.
   pub code_close : IsOfWordsProgram source → AreClose source.structs (globals_of source) (scopes_of source) source.functions
   code_close words = functions_close (lower_program source) source.structs (globals_of source) (scopes_of source) source.functions (functions_well source.functions words.functions is_fitting.functions)
 

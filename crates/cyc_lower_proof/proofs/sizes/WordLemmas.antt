@@ -355,7 +355,7 @@ module _ (starts : Starts) where
         ((tt, omega arith), append (caught ++ items) (instructions.Jump out ∷ []) (append caught items (caught_words x t) (items_words js (p + 1 + length caught) exits t first)) (tt, tt))
         (clauses_words cs (p + length clause) out exits t rest)
 
--- The code of a function with `count` exception blocks after its body.
+-- The code of a function: its body, a return, and the first `count` instructions of the blocks that raise exceptions.
 abbrev pub body_with : (structs : List StructType) (globals : List ℕ) (scopes : Option ℕ) (h : Function) (count : ℕ) → List Instruction
 body_with structs globals scopes h count = with_blocks (body_code (starts_with (raises_of structs globals scopes h) structs globals scopes h) h) (tag_slot h) count
 

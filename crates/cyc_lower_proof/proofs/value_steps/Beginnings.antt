@@ -70,7 +70,7 @@ use Rattle.cyc_lower_proof.proofs.value_steps.Landings.{lands_made, landed, land
 module _ (source : Program) (pages calls : ℕ) where
   -- ---- expressions, by the destination of the value
 
-  -- The facts that are known at each step that begins an expression.
+  -- The facts of the simulation relation that are known at each source step that begins the evaluation of an expression.
   abbrev pub At_step : Expression → List Entry → Environment → World → Configuration → Type 0
   At_step a k e w c = IsWell (step source (Running (Evaluating a) k e w)) × (shared : SharedAt source pages calls k e w c) × DataIn source shared.tables c.active.slots k e w c
       × Holds shared.tables c.active.slots (floor source c.active.function k) (held k)
@@ -100,7 +100,7 @@ module _ (source : Program) (pages calls : ℕ) where
   plain_operand kinds.Int kinds.Char a k c slot o m whole at = absurd (let f : true ≡ false = whole in cc)
   plain_operand from to a k c slot o m whole at = at
 
-  -- A value that will be converted is in an operand, or in a temporary if the conversion changes its words.
+  -- A value that will be converted is in a slot or constant without code, or is in a temporary if the conversion changes its words.
   pub sources : (t : Tables) (from to : Kind) (a : Expression) (k : List Entry) (e : Environment) (w : World) (c : Configuration) (o : Operand) (m q : ℕ)
       → OperandBy (code_of source c.active.function) (bounds_at source c.active.function) (types_on source c.active.function k) (source_of (starts_on source c.active.function k) (Convert from to a))
       (BroughtAt (code_of source c.active.function) (bounds_at source c.active.function) (types_on source c.active.function k) (Convert from to a) (source_slot (starts_on source c.active.function k) (Convert from to a) (top source c.active.function k)) (top source c.active.function k) c.active.next m)
@@ -268,7 +268,7 @@ module _ (source : Program) (pages calls : ℕ) where
       (λ choice. landed_moved source pages calls v o d k e w c q choice shared (facts.0.2.holds n found.number v found.there found.has).0 facts holds end lands)
 
   -- The values of a new object are moved to slots; the object is allocated in the region of this handle. The weight of the
-  -- step exceeds the weight of the object's initial values.
+  -- step, a measure for source steps without plain instructions, exceeds the weight of the object's initial values.
   pub made_of : (focus : Focus) (k₀ : List Entry) (owner : Owner) (handle : Operand) (i : Initial) (k : List Entry) (e : Environment) (w : World) (c : Configuration) (d q : ℕ)
       → step source (Running focus k₀ e w) ≡ makes owner i k e w → suc (object_weight i + stack_weight k) < weight (Running focus k₀ e w)
       → IsHandleOf owner handle (top source c.active.function k) k → (shared : SharedAt source pages calls k e w c) → DataIn source shared.tables c.active.slots k e w c
@@ -346,7 +346,7 @@ module _ (source : Program) (pages calls : ℕ) where
   addresses_last kind object x d a i k e w c q does here goes shared facts holds points end lands =
       addresses object x d a i k e w c q does here goes shared facts holds (subst (Points shared.tables object 0) (add-zero x) points) end lands
 
-  -- a char that is used as an int is moved to the slot of the int
+  -- the value of a char that is used as an int is moved to the slot of the int
   widened_lands : (g : ℕ) (locals : ℕ → Option ℕ) (kind : Kind) (d q : ℕ) (frames : List Frame) (k : List Entry) → words_of_kind kind ≡ 1 → LandsStack source g locals kinds.Int d q frames k
       → LandsStack source g locals kind d q frames (Needs (Operate unary.Widen) ∷ k)
   widened_lands g locals kind d q frames k one (in_temporary least stack) = in_temporary least stack

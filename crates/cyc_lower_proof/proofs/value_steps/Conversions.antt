@@ -71,7 +71,7 @@ module _ (source : Program) (pages calls : ℕ) where
       (λ choice. not_taken next c (compares failing (operand_word c.active.slots x) (operand_word c.active.slots y)) s passes
       (subst (λ n. Matches source pages calls next (plain.Running (at c n))) (sym end) goes))
 
-  -- States the facts of the simulation relation that hold while a value is in an operand.
+  -- States the facts of the simulation relation that hold while a value is in a slot or is a constant.
   abbrev pub Stands : Kinded → Operand → List Entry → Environment → World → Configuration → Type 0
   Stands v o k e w c = (shared : SharedAt source pages calls k e w c) × DataIn source shared.tables c.active.slots k e w c × IsIn shared.tables v c.active.slots o
       × Holds shared.tables c.active.slots (floor source c.active.function k) (held k)
@@ -223,8 +223,8 @@ module _ (source : Program) (pages calls : ℕ) where
   converted_ahead t from kinds.Key i (Key region) words n k e w well quiet whole wide is = (refl, kept_at t i kinds.Key (Key region) words n wide refl is)
   converted_ahead t from to i v words n k e w well quiet whole wide is = absurd (well refl)
 
-  -- If a conversion happens in the slots of a local, then the value has the kind from which it is
-  -- converted. The conversion keeps the value's number of words.
+  -- If a conversion happens in the slots of a local, then the value has the kind from which it is converted. The conversion keeps the
+  -- value's number of words.
   pub converts_ahead : (t : Tables) (from to : Kind) (target : Option Kind) (v : Kinded) (n : ℕ) (k : List Entry) (e : Environment) (w : World) (c : Configuration)
       → IsWell (step source (Running (Given v) (Needs (ConvertTo from to target) ∷ k) e w)) → converts_there from to ≡ true → masks from to ≡ false → Is t v.kind v.value c.active.slots n
       → (step source (Running (Given v) (Needs (ConvertTo from to target) ∷ k) e w) ≡ Running (Given (of_kind to v.value)) k e w) × Is t to v.value c.active.slots n

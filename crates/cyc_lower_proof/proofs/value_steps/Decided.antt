@@ -40,7 +40,7 @@ module _ (source : Program) (pages calls : ℕ) where
   forked c failing l r k f h true (inr (here, following)) reported = (opposite failing, l, r, h, here, ap (λ (b : Bool). if b then h else c.active.next + 1) (opposed failing _ _ ∙ ap not reported) ∙ following)
   forked c failing l r k f h false (inr (here, following)) reported = (opposite failing, l, r, h, here, ap (λ (b : Bool). if b then h else c.active.next + 1) (opposed failing _ _ ∙ ap not reported))
 
-  -- If a comparison is known to fail or to hold, then its value is given to the next continuation frame.
+  -- If it is known that a comparison fails or that it holds, then its value, 0 or 1, is given to the next continuation frame.
   pub given_compared : (t : Tables) (v : Kinded) (failing : Comparison) (l r : Operand) (k : List Entry) (e : Environment) (w : World) (c : Configuration) (fails : Bool)
       → is_zero v.value ≡ Some fails → compares failing (operand_word c.active.slots l) (operand_word c.active.slots r) ≡ fails
       → DataIn source t c.active.slots k e w c → Holds t c.active.slots (floor source c.active.function k) (held k)
@@ -113,7 +113,7 @@ module _ (source : Program) (pages calls : ℕ) where
       )
   decided_given v fails p k e w c shared facts zero holds leads stack = absurd stack
 
-  -- A value in an operand is only tested, and is not moved to a slot.
+  -- A value in a slot or constant is only tested by a jump, and is not moved to another slot.
   pub tested_given : (v : Kinded) (o : Operand) (k : List Entry) (e : Environment) (w : World) (c : Configuration) → (is_zero v.value ≡ None → ⊥) → (shared : SharedAt source pages calls k e w c)
       → DataIn source shared.tables c.active.slots k e w c → IsIn shared.tables v c.active.slots o → Holds shared.tables c.active.slots (floor source c.active.function k) (held k)
       → ConditionStack source c.active.function comparisons.Equal o (operands.Word 0) c.active.next c.frames k → IsMatched source pages calls (Running (Given v) k e w) (plain.Running c)

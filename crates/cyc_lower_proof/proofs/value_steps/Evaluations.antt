@@ -55,13 +55,13 @@ module _ (source : Program) (pages calls : ℕ) where
   known_simple starts (Unary u a) some = absurd (let f : false ≡ true = some in cc)
   known_simple starts a some = some
 
-  -- If an expression needs no code, then its operand is the one that was found without code.
+  -- If an expression needs no instructions, then its value is in the slot or constant that the code generator found for it.
   pub known_operand_is : (code : List Instruction) (b : Numbering) (types : Types) (known : Option Operand) (computed : Type 0) (slot : ℕ) (o : Operand) (p q : ℕ) → is_some known ≡ true
       → OperandBy code b types known computed slot o p q → (known ≡ Some o) × (p ≡ q)
   known_operand_is code b types (Some x) computed slot o p q some (is, end) = (ap Some (sym is), end)
   known_operand_is code b types None computed slot o p q some at = absurd (let f : false ≡ true = some in cc)
 
-  -- The loop counters of arrays stay in their slots while a left operand stays in its operand.
+  -- The loop counters that fill arrays stay in their slots while the value of an operator's left operand stays in its own slot.
   counters_beside : (t : Tables) (e : Environment) (g : ℕ) (o : Operand) (p : ℕ) (slots : Words) (frames : List Frame) (k : List Entry) → AreCounted e.counters k → BesideAt source t e.locals g o p slots frames k
       → CountersHold e.counters slots (floor source g k) k
   counters_beside t e g o p slots frames (Needs (Apply u left) ∷ k) counted (l, is, low, inl (holds, applied)) = counters_hold t e.counters slots (floor source g k) k counted holds
@@ -101,7 +101,7 @@ module _ (source : Program) (pages calls : ℕ) where
       )
       (omega arith)
 
-  -- A unary operator that needs no code is evaluated.
+  -- The source evaluates a unary operator for which the plain program needs no instruction.
   simple_computes : (u : UnaryOperator) (a : Expression) (k : List Entry) (e : Environment) (w : World) (c : Configuration) (o : Operand) (m : ℕ) (shared : SharedAt source pages calls k e w c) → DataIn source shared.tables c.active.slots k e w c
       → is_some (operand_of (starts_on source c.active.function k) a) ≡ true
       → ValueAt (code_of source c.active.function) (bounds_at source c.active.function) (types_on source c.active.function k) a (top source c.active.function k) o c.active.next m
@@ -111,13 +111,14 @@ module _ (source : Program) (pages calls : ℕ) where
       (shared, facts, as_right (o, m, known_simple (starts_on source c.active.function k) a some, at_a, beside))
       (omega arith)
 
-  -- The result of a unary operator that needs no code is the right operand of an operator whose left operand is available.
+  -- The result of a unary operator that needs no instruction is the right operand of an operator whose left operand is
+  -- already in a slot or constant.
   unary_beside : (t : Tables) (locals : ℕ → Option ℕ) (g : ℕ) (r : Operand) (m q : ℕ) (slots : Words) (frames : List Frame) (k : List Entry) → r ≡ operands.Slot (top source g k) → m + 1 ≡ q → BesideAt source t locals g r q slots frames k
       → BesideAt source t locals g (operands.Slot (top source g k)) (m + 1) slots frames k
   unary_beside t locals g r m q slots frames k is end beside =
       subst (λ p. BesideAt source t locals g (operands.Slot (top source g k)) p slots frames k) (sym end) (subst (λ x. BesideAt source t locals g x q slots frames k) is beside)
 
-  -- A right operand whose evaluation has no effect is evaluated, while the left operand stays in its operand.
+  -- A right operand whose evaluation has no effect is evaluated, while the left operand stays in its slot or constant.
   beside_left : (a : Expression) (k : List Entry) (e : Environment) (w : World) (c : Configuration) → IsWell (step source (Running (Evaluating a) k e w)) → (shared : SharedAt source pages calls k e w c) → DataIn source shared.tables c.active.slots k e w c
       → RightAt source shared.tables a e.locals c.active.function c.active.next c.active.slots c.frames k → IsBegun source pages calls a k e w c
   beside_left (Unary unary.Widen a) k e w c well shared facts (r, q, simple, there, beside) =

@@ -41,13 +41,14 @@ use Rattle.cyc_lower_proof.proofs.relation.contents.HandlerData.{floor-least, da
 use Rattle.cyc_lower_proof.proofs.relation.simulation.Accesses.{IsWell, is_loaded}
 use Rattle.cyc_lower_proof.proofs.relation.simulation.Matched.{IsMatched}
 
--- the lookup of an object does not depend on the region of new variables
+-- The lookup of an object does not depend on the region in which new variables are created.
 pub object_of_same : (l : Lvalue) (e : Environment) → object_of (record { locals = e.locals; home = 0; counters = λ level. None }) l ≡ object_of e l
 object_of_same (Local p n) e = refl
 object_of_same (Global n) e = refl
 
 module _ (source : Program) (pages calls : ℕ) where
-  -- Says that the plain machine matches the source step that begins with this focus.
+  -- Says that the plain machine matches the source step that begins with this focus, that is, with this expression, value or statement to
+  -- process next.
   abbrev pub IsStep : Focus → List Entry → Environment → World → Configuration → Type 0
   IsStep focus k e w c = IsWell (step source (Running focus k e w)) → Related source pages calls focus k e w c → IsMatched source pages calls (Running focus k e w) (plain.Running c)
 
@@ -135,12 +136,12 @@ module _ (source : Program) (pages calls : ℕ) where
 
   -- ---- operands without code
 
-  -- Holds if the expression is not a char that is used as an int.
+  -- Holds if the expression is not the conversion of a char to an int.
   abbrev pub IsPlain : Expression → Type 0
   IsPlain (Unary unary.Widen a) = ⊥
   IsPlain a = Unit {0}
 
-  -- The value of an expression without code is found in its operand.
+  -- The value of an expression that needs no instructions is found in the slot or constant that represents the expression.
   pub record IsRead (t : Tables) (a : Expression) (o : Operand) (k : List Entry) (e : Environment) (w : World) (c : Configuration) : Type 0 where
     pub value : Kinded
     pub gives : step source (Running (Evaluating a) k e w) ≡ Running (Given value) k e w
@@ -148,7 +149,7 @@ module _ (source : Program) (pages calls : ℕ) where
     pub same : value.kind ≡ given_at source c.active.function a
     pub some : expression_weight a ≡ 1
 
-  -- The value of a local is found in the operand of the local.
+  -- The value of a local is found in the slot of the local, which is used as an operand.
   reads_local : (tables : Tables) (a : Expression) (n : ℕ) (t : Ty) (o : Operand) (k : List Entry) (e : Environment) (w : World) (c : Configuration)
       → step source (Running (Evaluating a) k e w) ≡ loaded_from (kind_of t) (e.locals n) k e w → kind_of t ≡ given_at source c.active.function a → expression_weight a ≡ 1
       → Some (operands.Slot (slot_of (starts_on source c.active.function k) n)) ≡ Some o → IsWell (loaded_from (kind_of t) (e.locals n) k e w)

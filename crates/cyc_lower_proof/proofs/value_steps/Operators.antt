@@ -108,7 +108,7 @@ module _ (source : Program) (pages calls : ℕ) where
       landed source pages calls (of_kind kind v) (put c.active.slots d x) d k e w c (c.active.next + 1) shared is
       (λ m out. put_elsewhere c.active.slots d x 1 m (omega arith) (subst (λ many. Outside d many m) one out)) facts holds refl lands
 
-  -- A char that is used as an int stays in its operand.
+  -- A char that is used as an int needs no instruction: its value stays in the same slot or constant.
   widened : (i : Kind) (v : Value) (o : Operand) (k : List Entry) (e : Environment) (w : World) (c : Configuration) → IsWell (step source (Running (Given (of_kind i v)) (Needs (Operate unary.Widen) ∷ k) e w))
       → Stands source pages calls (of_kind i v) o k e w c → ValueStack source c.active.function e.locals kinds.Int o c.active.next c.frames k → GoesAfter source pages calls (of_kind i v) (Needs (Operate unary.Widen) ∷ k) e w c
   widened i (Int a) o k e w c well (shared, facts, is, holds) stack =
@@ -227,7 +227,7 @@ module _ (source : Program) (pages calls : ℕ) where
   beside_same t locals g o p slots other frames k same beside = absurd beside
 
   -- The result of an operator becomes a left operand, or the value of a chain. The left operand of the enclosing chain stays in
-  -- its operand.
+  -- its slot or constant.
   pub stays_beside : (v : Kinded) (x : ℕ) (k : List Entry) (e : Environment) (w : World) (c : Configuration) (q p : ℕ) (shared : SharedAt source pages calls k e w c) → DataIn source shared.tables c.active.slots k e w c → p ≡ q
       → Is shared.tables v.kind v.value (put c.active.slots (top source c.active.function k) x) (top source c.active.function k)
       → BesideAt source shared.tables e.locals c.active.function (operands.Slot (top source c.active.function k)) q c.active.slots c.frames k
@@ -374,7 +374,7 @@ module _ (source : Program) (pages calls : ℕ) where
   awaited_fits true waiting b os k e w well = refl
   awaited_fits false waiting b os k e w well = absurd (well refl)
 
-  -- An expression whose evaluation may have an effect needs code.
+  -- An expression whose evaluation may have an effect needs at least one instruction.
   unknown : (starts : Starts) (b : Expression) → is_simple starts b ≡ false → operand_of starts b ≡ None
   unknown starts b other = by (operand_of starts b) refl
     where
@@ -387,7 +387,8 @@ module _ (source : Program) (pages calls : ℕ) where
   left_there code b types (Some x) left computed slot o p q none at = absurd (none-some x (sym none))
   left_there code b types None left computed slot o p q none (is, (there, at)) = there
 
-  -- The left operand of an operator stays in its operand if the right operand has no effects, and the right operand is evaluated after it.
+  -- The left operand of an operator stays in its slot or constant if the right operand has no effects, and the right operand is evaluated
+  -- after it.
   chain_goes_on : (simple : Bool) (u : Operator) (b : Expression) (os : Operations) (v : Kinded) (l : Operand) (k : List Entry) (e : Environment) (w : World) (c : Configuration) (r : Operand) (m : ℕ)
       → IsWell (step source (Running (Given v) (Needs (Chain (ThenCompute u b os)) ∷ k) e w)) → is_simple (starts_on source c.active.function k) b ≡ simple → IsLow l (top source c.active.function k) → Stands source pages calls v l k e w c
       → OperandBy (code_of source c.active.function) (bounds_at source c.active.function) (types_on source c.active.function k) (operand_of (starts_on source c.active.function k) b)
@@ -428,7 +429,7 @@ module _ (source : Program) (pages calls : ℕ) where
           (subst (IsIn shared.tables v c.active.slots) there is, holds)
           (subst (λ x. AppliedStack source g e.locals u x r m c.frames (Needs (Chain os) ∷ k)) there applied)
 
-  -- The constant null, which has no code, is compared with a pointer that stays in its operand.
+  -- The constant null, which needs no instruction, is compared with a pointer that stays in the same slot.
   null_beside : (peek : Option ℕ) (u : PointerOperator) (v : Kinded) (o r : Operand) (failing : Comparison) (q : ℕ) (k : List Entry) (e : Environment) (w : World) (c : Configuration) → null_failing u ≡ Some failing → r ≡ operands.Word 0 → c.active.next ≡ q
       → (t : Tables) → IsIn t v c.active.slots o → IsLow o (top source c.active.function k) → Holds t c.active.slots (floor source c.active.function k) (held k) → ConditionStack source c.active.function failing o r q c.frames k
       → EvaluatingAt source t NullPointer e.locals c.active.function c.active.next c.active.slots c.frames (Needs (ApplyPointer peek u v) ∷ Needs (Chain NoOperations) ∷ k)
@@ -462,7 +463,7 @@ module _ (source : Program) (pages calls : ℕ) where
       (omega arith)
   peek_goes_on n u b v o r failing q k e w c well stands low fails same end stack = absurd (none-some failing fails)
 
-  -- When two pointers are compared, the left pointer stays in its operand if the evaluation of the right one has no effects.
+  -- When two pointers are compared, the left pointer stays in its slot if the evaluation of the right one has no effects.
   pointer_beside : (simple : Bool) (peek : Option ℕ) (u : PointerOperator) (b : Expression) (v : Kinded) (l r : Operand) (failing : Comparison) (m : ℕ) (k : List Entry) (e : Environment) (w : World) (c : Configuration)
       → pointers_failing u ≡ Some failing → takes_kind u v.kind ≡ true → is_simple (starts_on source c.active.function k) b ≡ simple → IsLow l (top source c.active.function k)
       → (t : Tables) → IsIn t v c.active.slots l → Holds t c.active.slots (floor source c.active.function k) (held k)

@@ -79,7 +79,7 @@ module _ (t : Tables) where
       let (words, p, same, is_it) = in_words t (of_kind kind (Int a)) slots o is in
       sym same ∙ int_at kind a words p is_it
 
-  -- A char that is used as an int stays in its operand.
+  -- A char that is used as an int is represented by the same slot or constant as before.
   pub int_in : (kind : Kind) (a : ℕ) (slots : Words) (o : Operand) → IsIn t (of_kind kind (Int a)) slots o → IsIn t (int_of a) slots o
   int_in kind a slots (operands.Slot n) is = int_at kind a slots n is
   int_in kind a slots (operands.Word w) is = int_is kind a slots (operands.Word w) is
@@ -208,7 +208,7 @@ pub untrue : (b : Bool) → (truth b == 0) ≡ not b
 untrue true = refl
 untrue false = refl
 
--- The result of an operator is 0 if the comparison for the operator's failure holds.
+-- The result of a comparison operator is 0 exactly if the opposite comparison of its operands holds.
 pub fails_by : (u : Operator) (failing : Comparison) (a b : ℕ) → failing_comparison u ≡ Some failing → (binary_word u a b == 0) ≡ compares failing a b
 fails_by operators.Equal failing a b is = untrue (a == b) ∙ ap (λ f. compares f a b) (same_Some comparisons.NotEqual failing is)
 fails_by operators.NotEqual failing a b is = untrue (not (a == b)) ∙ not_not (a == b) ∙ ap (λ f. compares f a b) (same_Some comparisons.Equal failing is)

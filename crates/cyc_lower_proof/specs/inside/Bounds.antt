@@ -9,7 +9,7 @@ use Rattle.cyc_lower_proof.specs.inside.Lowering.{farthest, body_code, starts_wi
 abbrev pub HaveFewWords : List Function → Type 0
 HaveFewWords hs = (n : ℕ) (h : Function) → slice_get hs n ≡ Some h → frame_count h ≤ most_frame_count
 
--- Says that the jumps in a function's body go at most to the exception blocks after the body.
+-- Says that the jumps in a function's body go at most to the blocks that raise exceptions, which come after the body.
 abbrev pub IsClose : List StructType → (globals : List ℕ) → (scopes : Option ℕ) → Function → Type 0
 IsClose structs globals scopes h =
     farthest (body_code (starts_with (raises_of structs globals scopes h) structs globals scopes h) h) ≤ raises_of structs globals scopes h + 7

@@ -151,9 +151,9 @@ if_code last condition jump first second p =
     (condition (other_place last (condition 0) first p) ++ jump (other_place last (condition 0) first p) ∷ first)
     ++ (over_code last (other_place last (condition 0) first p + length second) ++ second)
 
--- A loop begins with an entry. If the condition holds, then the entry continues at the body, and otherwise at the next jump, which goes to
--- the end of the loop. The targets of `continue` (the start of the loop) and `break` (the jump to the end) are known before the body is
--- emitted. After the body comes the condition again, with a jump back to the body if the condition holds.
+-- A loop begins with code that enters it. If the condition holds, then this code continues at the body, and otherwise at the next jump,
+-- which goes to the end of the loop. The targets of `continue` (the start of the loop) and `break` (the jump to the end) are known before
+-- the body is emitted. After the body comes the condition again, with a jump back to the body if the condition holds.
 abbrev pub continue_target : Exits → ℕ
 continue_target exits = exits.head
 

@@ -89,8 +89,8 @@ module _ (starts : Starts) where
     right = value_operand starts (compared_of a).right (suc t);
   }
 
-  -- The code of the operands of a condition after the first one. If the previous operand decides, then a jump goes to the position
-  -- `following`.
+  -- The code of the operands after the first one in a condition that is a chain of `&&` or `||`. If the previous operand decides,
+  -- then a jump goes to the position `following`.
   abbrev pub others_code : LogicalOperator → Operations → Condition → (following p t : ℕ) → List Instruction
   others_code u NoOperations c following p t = []
   others_code u (ThenTest o b os) c following p t =
@@ -154,8 +154,8 @@ module _ (starts : Starts) where
   is_light (Unary unary.Widen a) = is_light a
   is_light a = is_simple starts a
 
-  -- Tells if a condition is light, that is, has so little code that it may be duplicated: it is a light expression, or
-  -- it compares two light expressions.
+  -- Tells if a condition is light, that is, has so little code that it may be duplicated. A light condition is an
+  -- expression with little code, or compares two such expressions.
   abbrev pub is_light_comparison : Operator → (a b : Expression) → Bool
   is_light_comparison o a b = is_some (failing_comparison o) && (is_light a && is_light b)
 
@@ -288,8 +288,8 @@ starts_with raises structs globals scopes h = record { locals = starts_from 0 (s
 abbrev pub body_code : Starts → Function → List Instruction
 body_code starts h = items_code starts h.body 0 outside_loops (first_temporary h)
 
--- The exception blocks come after the code of the body, whose length does not depend on their position. The code is first emitted for a
--- far position of the blocks, and its jumps are then adjusted to the real position.
+-- The blocks that raise exceptions come after the code of the body, whose length does not depend on their position. The code is first
+-- emitted for a far position of the blocks, and its jumps are then adjusted to the real position.
 abbrev pub raises_of : List StructType → (globals : List ℕ) → (scopes : Option ℕ) → Function → ℕ
 raises_of structs globals scopes h = length (body_code (starts_with 0 structs globals scopes h) h)
 
@@ -325,12 +325,12 @@ AreTurned far near (i ∷ old) [] = ⊥
 AreTurned far near (i ∷ old) (j ∷ new) = IsTurned far near i j × AreTurned far near old new
 
 -- The code of a body ends with a return, which is the end of a void function. In any other function this return is unreachable, and only
--- prevents the code from running off its end. After the return come `count` exception blocks.
+-- prevents the code from running off its end. After the return come the first `count` instructions of the blocks that raise exceptions.
 abbrev pub with_blocks : (body : List Instruction) → (slot count : ℕ) → List Instruction
 with_blocks body slot count = body ++ instructions.Finish slot ∷ take count (blocks slot)
 
--- The number of instructions of the exception blocks that are kept: up to the last block that is a jump target; the first two
--- instructions form one unit.
+-- The number of instructions that are kept of the blocks that raise exceptions: up to the last block that is a jump
+-- target; the first two instructions form one unit.
 abbrev pub blocks_kept : (farthest : ℕ) → ℕ
 blocks_kept (suc zero) = 2
 blocks_kept n = n

@@ -161,8 +161,8 @@ raising tag = instructions.Throw (operands.Word tag) (operands.Word 0)
 abbrev pub telling : (slot : ℕ) → List Instruction
 telling slot = instructions.Binary plain_binary.Add slot (operands.Slot slot) (operands.Word null_exception) ∷ instructions.Throw (operands.Slot slot) (operands.Word 0) ∷ []
 
--- The exception blocks after a function's body. First comes the code for a failed access through a fat pointer. One raising
--- instruction for each built-in exception follows, in the order of the exceptions' indices.
+-- The blocks that raise exceptions, after a function's body. First comes the code for a failed access through a fat
+-- pointer. One raising instruction for each built-in exception follows, in the order of the exceptions' indices.
 abbrev pub blocks : (slot : ℕ) → List Instruction
 blocks slot = telling slot ++ (raising null_exception ∷ raising array_bounds ∷ raising array_size ∷ raising division_by_zero ∷ [])
 

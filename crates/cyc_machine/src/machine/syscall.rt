@@ -114,7 +114,7 @@ impl<S: Store + Drop> Machine<S> {
         }
     }
 
-    /// Closes the newest lexical regions until `mark` are open.
+    /// Closes the newest lexical regions, so that only the `mark` oldest ones stay open.
     fn close_lexical(&mut self, mark: u32) -> Event
         ensures { ActsOver S.GROWS (Calls (Asks (CloseTo mark))) (state_of S.held self.old) result (state_of S.held self.new) }
     {

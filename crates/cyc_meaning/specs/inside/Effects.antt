@@ -40,8 +40,8 @@ calls_after focus stack = calls_in stack
 
 -- ---- changes of the world
 
--- The effect of one step on the heap state: no change, or one of the changes listed. The bytes that the step prints and the number of
--- bytes that it reads are given.
+-- The effect of one step on the heap state: no change, or one change, such as opening a region or allocating an object. The bytes
+-- that the step prints and the number of bytes that it reads are given.
 pub data Changes (w : World) : (printed : List ℕ) → (count : ℕ) → World → Type 0 where
   Keeps : Changes w [] 0 w
   Opens : (sort : Sort) → Changes w [] 0 (opened_as sort w)

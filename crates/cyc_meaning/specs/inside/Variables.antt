@@ -46,7 +46,7 @@ abbrev pub region_in : Option Object → Option ℕ
 region_in None = None
 region_in (Some x) = region_of x.owner
 
--- Says that the object with the given number belongs to the given region.
+-- Says that the owner of the object with the given number is the given region.
 abbrev pub LivesIn : List Object → (object region : ℕ) → Type 0
 LivesIn objects object region = region_in (slice_get objects object) ≡ Some region
 
@@ -165,15 +165,15 @@ AreGlobals globals objects = (object : ℕ) → object < globals → LivesIn obj
 abbrev pub LiveInRegions : List Object → List Region → Type 0
 LiveInRegions objects regions = (object region : ℕ) → LivesIn objects object region → region < length regions
 
--- The invariant that each live variable is a global or a local of an active call, for the newest
--- call with its locals and for the suspended calls.
+-- The invariant that each live variable is a global or a local of an active call, for the newest call with its locals and for the suspended
+-- calls.
 abbrev pub AreNamed : (globals : ℕ) → List Entry → Locals → List Object → List Region → Type 0
 AreNamed globals stack locals objects regions =
     DeclareLater stack locals objects × LiveInBlocks stack locals objects regions × WaitInBlocks stack objects regions
     × HaveNames globals (locals ∷ waiting stack) objects regions × AreDistinct (locals ∷ waiting stack) × AreGlobals globals objects × LiveInRegions objects regions
 
--- The invariant of every state of a run of a program with the given number of globals: each live
--- variable is a global or a local of an active call.
+-- The invariant of every state of a run of a program with the given number of globals: each live variable is a global or a local of an
+-- active call.
 abbrev pub HasNames : (globals : ℕ) → State → Type 0
 HasNames globals (Running focus stack e w) = DeclareNow focus stack e.locals w.objects × (AreNamed globals stack e.locals w.objects w.regions)
 HasNames globals (Ended ending output input) = Unit {0}

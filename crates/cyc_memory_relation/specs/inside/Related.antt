@@ -18,7 +18,8 @@ use Rattle.cyc_memory_relation.specs.inside.Words.{bytes_of_kinds, Points, AreCe
 
 -- ---- regions
 
--- The sort of the heap store's region that implements a source region of a given sort; a region of variables is not in the heap store.
+-- The sort (heap, lexical, dynamic, ..) of the heap store's region that implements a source region of a given sort; a region of
+-- variables is not in the heap store.
 abbrev pub sort_of : Sort → Option stores.Sort
 sort_of Heap = Some stores.Heap
 sort_of Globals = None
@@ -58,8 +59,8 @@ abbrev pub entry_of : Option (Option ℕ) → Option ℕ
 entry_of None = None
 entry_of (Some handle) = handle
 
--- The handle of the heap store's region that contains the live objects of this owner. A variable, and an object that is freed
--- or whose region is closed, lies in no region of the store.
+-- The handle of the heap store's region that contains the live objects of this owner (a region, or the unique pointer to an
+-- object). A variable, and an object that is freed or whose region is closed, lies in no region of the store.
 abbrev pub lies_in : (handles : List (Option ℕ)) → List Region → Owner → Option ℕ
 lies_in handles regions (InRegion number) =
     if stands_there (slice_get regions number) then entry_of (slice_get handles number) else None
@@ -94,7 +95,8 @@ IsOfVariable (Placed address kinds) = IsOutside address kinds
 abbrev pub IsVariableAt : Tables → (number : ℕ) → Type 0
 IsVariableAt t number = (row : Row) × (slice_get t.rows number ≡ Some row) × IsOfVariable row
 
--- Says that the cells of an object with an address have the kinds that its row in the table of objects states.
+-- Says that the cells of an object with an address have the representation kinds (int, char, pointer, ..) that
+-- its row in the table of objects states.
 abbrev pub HasKinds : List Cell → Row → Type 0
 HasKinds cells Variable = Unit {0}
 HasKinds cells (Placed address kinds) = kinds ≡ kinds_of cells
@@ -112,14 +114,15 @@ pub record LiveVariable (t : Tables) (w : World) (number : ℕ) (x : Object) : T
   pub entry : slice_get t.handles region ≡ Some None
   pub live : is_live w x.owner ≡ true
 
--- Says that no machine word belongs to two live variables. The compiler pass that assigns addresses to variables ensures this property.
+-- Says that no machine word is part of two different live variables. The compiler pass that assigns addresses to variables ensures this
+-- property.
 abbrev pub AreApart : Tables → World → Type 0
 AreApart t w = (number other offset beside word : ℕ) (x y : Object) → LiveVariable t w number x → LiveVariable t w other y
     → Points t number offset word → Points t other beside word → number ≡ other
 
 -- ---- the world and the store
 
--- Says that the region that owns an object, if any, was opened before.
+-- Says that the region that owns an object, if the owner is a region, is one of the regions opened so far.
 abbrev pub Within : (regions : ℕ) → Owner → Type 0
 Within regions (InRegion number) = number < regions
 Within regions (Unique live) = Unit {0}
@@ -134,7 +137,7 @@ pub record Related (t : Tables) (w : World) (s : StoreState) : Type 0 where
   pub classes : s.classes ≡ w.classes
   pub uniques : (class : ℕ) → stores.live_in class s.unique ≡ live_in class w.objects
   pub owned : (number : ℕ) (x : Object) → slice_get w.objects number ≡ Some x → Within (length w.regions) x.owner
-  -- A row of the table of objects states the kinds of its object's cells for ever, even after the object is freed.
+  -- A row of the table of objects states the representation kinds of its object's cells for ever, even after the object is freed.
   pub shapes : (number address : ℕ) (kinds : List Kind) (x : Object) → slice_get w.objects number ≡ Some x
       → slice_get t.rows number ≡ Some (Placed address kinds) → kinds ≡ kinds_of x.cells
   -- An object in a region of variables is a variable.

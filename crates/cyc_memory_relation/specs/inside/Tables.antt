@@ -7,7 +7,7 @@ use Rattle.cyc_types.specs.TypedTrees.{GlobalVariable, Program}
 use Rattle.cyc_store.specs.declared.range.TheConstants.{HEAP}
 
 -- Says where an object's words are. A variable whose address is never taken has no address; any other object begins at an address, with
--- cells of these kinds in order.
+-- cells of these representation kinds in order.
 pub data Row : Type 0 where
   Variable : Row
   Placed : (address : ℕ) → (kinds : List Kind) → Row

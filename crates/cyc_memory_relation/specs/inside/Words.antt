@@ -11,7 +11,7 @@ use Rattle.cyc_memory_relation.specs.inside.Tables.{Placed, Tables}
 
 -- ---- consecutive cells
 
--- the number of bytes of an object with cells of these kinds, up to the end of the last cell
+-- the number of bytes of an object with cells of these representation kinds (int, char, pointer, ..), up to the end of the last cell
 abbrev pub bytes_of_kinds : List Kind → ℕ
 bytes_of_kinds ks = bytes_from 0 ks
 
@@ -52,8 +52,8 @@ pub record Points (t : Tables) (object offset word : ℕ) : Type 0 where
   pub inside : offset < length kinds
   pub at : word ≡ address + before offset kinds
 
--- Says that a word is the address of the first of `count` cells from `start` on, all of one kind. If `count` is 0, the word may be the
--- address just after the object.
+-- Says that a word is the address of the first of `count` cells from `start` on, all of one representation kind. If `count` is 0, the
+-- word may be the address just after the object.
 pub record IsPartOf (t : Tables) (object start count word : ℕ) : Type 0 where
   pub address : ℕ
   pub kinds : List Kind
@@ -66,9 +66,9 @@ pub record IsPartOf (t : Tables) (object start count word : ℕ) : Type 0 where
 
 -- ---- values
 
--- Says that the words from an index on represent a value of this kind. A fat pointer has three words: the address of the first cell
--- that it can access, the length, and the index; all other values have one word. For a fat null pointer the address and the length
--- are 0, so no index is in bounds, and the index is arbitrary. The word of a char is below 256.
+-- Says that the words from an index on represent a value of this representation kind (int, char, pointer, ..). A fat pointer has three
+-- words: the address of the first cell that it can access, the length, and the index; all other values have one word. For a fat null
+-- pointer the address and the length are 0, so no index is in bounds, and the index is arbitrary. The word of a char is below 256.
 abbrev pub Is : Tables → Kind → Value → (words : ℕ → ℕ) → (place : ℕ) → Type 0
 Is t kinds.Int (Int word) words place = words place ≡ word
 Is t kinds.Char (Int word) words place = (words place ≡ word) × (word < 256)
@@ -84,7 +84,7 @@ Is t kind value words place = ⊥
 
 -- ---- cells
 
--- Says that the cell of this kind at an address contains the value: its words, or the byte of a char.
+-- Says that the cell of this representation kind at an address contains the value: its words, or the byte of a char.
 abbrev pub Holds : Tables → Kind → Value → Memory → (address : ℕ) → Type 0
 Holds t kinds.Int value memory address = Is t kinds.Int value (words_from memory address) 0
 Holds t kinds.Char (Int byte) memory address = byte_at memory address ≡ byte

@@ -1,4 +1,4 @@
--- The live words of a page depend on serial numbers; the definitions describe them, and the effect of renumbering all pages.
+-- Definitions of the live words of a page, which depend on the serial numbers of pages, and of the effect of renumbering all pages.
 use Rattle.std.specs.Prelude.{◌≡◌, ℕ, ◌+◌, ◌*◌, ◌-◌, ◌^◌, ◌<◌, ◌≤◌, ◌==◌, if◌then◌else◌, List, length, slice_index}
 use Rattle.cyc_rawpages.specs.inside.Pool.{PoolState}
 
@@ -15,7 +15,7 @@ reach_by serial owner fill page = if serial page == serial (owner page) then fil
 abbrev pub reach : PoolState → (page : ℕ) → ℕ
 reach p page = reach_by (λ (q : ℕ). slice_index p.serials q) (λ (q : ℕ). slice_index p.owners q) (λ (q : ℕ). filled_by p.fills q) page
 
--- Says that the pool stores a value of each kind of data for each page, and that each page's owner is a page.
+-- Says that the pool stores a fill mark, an owner and a serial for each page, and that each page's owner is a page.
 pub record IsWhole (p : PoolState) : Type 0 where
   pub few : p.pages ≤ 65536
   pub fills : length p.fills ≡ p.pages

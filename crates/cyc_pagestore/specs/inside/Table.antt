@@ -41,7 +41,7 @@ pub record AreAlone (p : PoolState) : Type 0 where
   pub chains : length p.chains ≡ p.pages
   pub alone : (page : ℕ) → IsFree p.free page → chain_at p.chains page ≡ []
 
--- Says that no page of the table is free.
+-- Says that no page of the page table is free.
 pub record IsFull (t : TableState) : Type 0 where
   pub past : length t.rows ≤ t.free
   pub all : t.most ≤ length t.rows
@@ -50,7 +50,7 @@ pub record IsFull (t : TableState) : Type 0 where
 abbrev pub IsIdlePast : TableState → (end : ℕ) → Type 0
 IsIdlePast t end = (page : ℕ) → page < t.most → (((row_of t page).role ≡ Rest) × ((row_of t page).filled ≡ 0)) ⊎ (1024 * page + 1024 ≤ end)
 
--- Says that the role of a page is that of a region's first page.
+-- Says that the role of a page (its use in the page table) is that of a region's first page.
 abbrev pub IsRoot : Role → Type 0
 IsRoot role = (role ≡ Heap) ⊎ ((role ≡ Lexical) ⊎ (role ≡ Dynamic))
 
@@ -103,7 +103,7 @@ no_spot = record { role = Rest; newest = NONE }
 abbrev pub spot_at : List Spot → (page : ℕ) → Spot
 spot_at spots page = slice_index_or spots page no_spot
 
--- The readable state of a pool, and of the data kept beside the pool.
+-- The readable state of a pool, and of the page table's data stored outside the pool.
 pub record Backing : Type 0 where
   pub pages : ℕ
   pub serial : ℕ → ℕ

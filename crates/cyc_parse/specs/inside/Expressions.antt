@@ -85,7 +85,7 @@ abbrev pub of_level : ℕ → Option BinaryOperator → Option BinaryOperator
 of_level k None = None
 of_level k (Some o) = if nat_eq (level o) k then Some o else None
 
--- Returns the next symbol's binary operator, if it belongs to the given level.
+-- Returns the next symbol's binary operator, if it has the given precedence level.
 abbrev pub operator_at : ℕ → Option Terminal → Option BinaryOperator
 operator_at k (Some (Mark s)) = of_level k (binary_operator s)
 operator_at k _ = None
@@ -107,7 +107,7 @@ binary_of e (ThenOperation o p r os) = Binary e (ThenOperation o p r os)
 
 -- ---- chains of binary operators, given the parser of an operand with its prefixes and postfixes
 
--- Ends an operator chain that has the maximal number of operators; one more operator is rejected.
+-- Ends a chain of binary operators that has the maximal number of operators; one more operator is rejected.
 abbrev pub no_more_operations : ℕ → Parser Operations
 no_more_operations k = if_is (operator_at k) (λ o. refuse TooLong) (pure NoOperations)
 
@@ -115,7 +115,7 @@ unfoldable pub operations : Parser Expression → ℕ → ℕ → Parser Operati
 operations operand k zero = no_more_operations k
 operations operand k (suc left) = if_is (operator_at k) (λ o. advance >>= (λ p. operand >>= (λ e. operations operand k left >>= (λ os. pure (ThenOperation o p e os))))) (pure NoOperations)
 
--- Extends a first operand by the operators of all levels up to the given one.
+-- Extends a first operand by the operators of all precedence levels up to the given one, with their right operands.
 unfoldable pub climb : Parser Expression → ℕ → Expression → Parser Expression
 climb unary zero e = pure e
 climb unary (suc k) e = climb unary k e >>= (λ first. operations (unary >>= climb unary k) (suc k) max_items >>= (λ os. pure (binary_of first os)))

@@ -24,7 +24,7 @@ abbrev pub and_then : {A B : Type 0} → Outcome A → (A → Parser B) → Outc
 and_then (Ok p) f = f p.0 p.1
 and_then (Err e) f = Err e
 
--- Runs a parser, and then another one on the symbols left.
+-- Runs a parser, and then runs another parser on the symbols that the first leaves unread.
 unfoldable pub bind : {A B : Type 0} → Parser A → (A → Parser B) → Parser B
 bind p f = λ ts. and_then (p ts) f
 
@@ -53,7 +53,7 @@ choose f = λ ts. f (next ts) ts
 
 -- ---- one symbol. `room` counts the levels of nesting that are left, including the present one: with none, the symbol is nested too deep.
 
--- Returns the number of nesting levels left inside one more bracket.
+-- Returns the number of nesting levels that are left inside one more pair of brackets.
 abbrev pub inside : ℕ → ℕ
 inside zero = zero
 inside (suc room) = room
@@ -149,7 +149,7 @@ abbrev pub reason_by : (Terminal → Bool) → Reason → Option Terminal → Re
 reason_by begins why None = Unexpected
 reason_by begins why (Some t) = if begins t then why else Unexpected
 
--- Rejects an item that begins at the next symbol, for the given reason; a symbol that begins no item is unexpected.
+-- If a list element begins at the next symbol, rejects the symbol for the given reason; a symbol that begins no element is unexpected.
 unfoldable pub refuse_item : {A : Type 0} → (Terminal → Bool) → Reason → Parser A
 refuse_item begins why = λ ts. refuse (reason_by begins why (next ts)) ts
 
@@ -160,7 +160,7 @@ opens_low_byte (t ∷ ts) = is_some (is_word words.Char t.terminal) && sees mark
 
 -- ---- lists with commas. The number counts the items that may still follow.
 
--- Ends a list that has the maximal number of items; one more item is rejected.
+-- Ends a list that has the maximal number of elements; one more element is rejected.
 abbrev pub no_more_items : {A : Type 0} → ℕ → (Terminal → Bool) → Parser (List A)
 no_more_items room begins = if_sees marks.Comma (sign room marks.Comma >> refuse_item begins TooLong) (pure [])
 

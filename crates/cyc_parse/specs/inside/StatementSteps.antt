@@ -45,11 +45,11 @@ module _ (room : ℕ) (inner : Nested) where
   abbrev pub plain_statement : Parser Statement
   plain_statement = choose plain_by
 
-  -- reads the closing brace after the items of a block
+  -- reads the closing brace after the declarations and statements of a block
   abbrev pub end_of_block : Place → Items → Parser Body
   end_of_block p is = sign room signs.RightBrace >>= (λ q. pure (Braces p is q))
 
-  -- reads the closing brace after the clauses of a `try`
+  -- reads the closing brace after the catch clauses of a `try`
   abbrev pub end_of_try : Place → Statement → Clauses → Parser Statement
   end_of_try p s cs = sign room signs.RightBrace >> pure (Try p s cs)
 
@@ -67,7 +67,7 @@ module _ (room : ℕ) (inner : Nested) where
   with_items None = pure None
   with_items (Some head) = inner.items >>= (λ is. pure (Some (Case head.0 head.1 is)))
 
-  -- Parses one catch clause, and returns it as a function of the clauses after it.
+  -- Parses one catch clause, and returns a function that puts it in front of the clauses after it.
   abbrev pub one_clause : Parser (Option (Clauses → Clauses))
   one_clause = clause_head >>= with_items
 

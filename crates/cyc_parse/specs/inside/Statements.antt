@@ -1,4 +1,4 @@
--- The parser of statements and of the items of blocks.
+-- The parser of statements and of the declarations and statements of blocks.
 use Rattle.std.specs.Prelude.{ℕ, zero, suc, Bool, true, false, ◌&&◌, ◌||◌, length, Option, Some, None, if◌then◌else◌}
 use Rattle.cyc_syntax.specs.declared.tokens.Keyword.{Keyword}
 use Rattle.cyc_syntax.specs.declared.tokens.Keyword.TheVariants as words
@@ -173,8 +173,8 @@ module _ (room : ℕ) (inner : Nested) where
   abbrev pub caught : Parser (Option Named)
   caught = if_sees signs.LeftParen (sign room signs.LeftParen >> identifier (inside room) >>= (λ v. sign (inside room) signs.RightParen >> pure (Some v))) (pure None)
 
-  -- Parses the clauses of a `catch`; the number argument bounds how many clauses are read, and the number of symbols
-  -- left is a sufficient bound.
+  -- Parses the catch clauses of a `catch`; the number argument bounds how many clauses are read, and the number of
+  -- symbols left is a sufficient bound.
   unfoldable pub clauses_in : ℕ → Parser Clauses
   clauses_in zero = pure NoClauses
   clauses_in (suc turns) =

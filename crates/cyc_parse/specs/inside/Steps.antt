@@ -79,17 +79,17 @@ created_in inner = advance >>= (λ p. inner.group >>= (λ h. inner.initial >>= (
 abbrev pub with_chain : ℕ → Nested → Expression → Parser Expression
 with_chain room inner e = postfixes room inner max_items >>= (λ ps. pure (chained e ps))
 
--- Reads `->` and a field's name, and returns them as a function of the postfixes that follow.
+-- Reads `->` and a field's name, and returns a function that puts this postfix in front of the postfixes that follow.
 abbrev pub one_field : ℕ → Parser (Option (Postfixes → Postfixes))
 one_field room = if_sees signs.Arrow (sign room signs.Arrow >> identifier room >>= (λ x. pure (Some (ThenField x)))) (pure None)
 
--- Reads one postfix, and returns it as a function of the postfixes that follow.
+-- Reads one postfix, and returns a function that puts it in front of the postfixes that follow.
 abbrev pub one_postfix : ℕ → Nested → Parser (Option (Postfixes → Postfixes))
 one_postfix room inner =
     if_sees signs.LeftBracket (sign (suc room) signs.LeftBracket >> inner.expression >>= (λ e. sign room signs.RightBracket >> pure (Some (ThenIndex e))))
     (one_field (suc room))
 
--- Returns true if the operator belongs to one of the levels up to the given one.
+-- Returns true if the precedence level of the operator is at most the given level.
 abbrev pub is_within : ℕ → Option BinaryOperator → Bool
 is_within most None = false
 is_within most (Some o) = nat_le (level o) most
@@ -98,12 +98,12 @@ abbrev pub level_within : ℕ → ℕ → Option BinaryOperator → Option ℕ
 level_within below most None = None
 level_within below most (Some o) = if nat_lt below (level o) && is_within most (Some o) then Some (level o) else None
 
--- Returns the next symbol's operator level, if the symbol is a binary operator whose level is above `below` and at most `most`.
+-- Returns the next symbol's precedence level, if the symbol is a binary operator whose level is above `below` and at most `most`.
 abbrev pub level_at : ℕ → ℕ → Option Terminal → Option ℕ
 level_at below most (Some (Mark s)) = level_within below most (binary_operator s)
 level_at below most _ = None
 
--- Returns the symbols after the next one.
+-- Returns the symbols that come after the next symbol.
 abbrev pub following : List Symbol → List Symbol
 following [] = []
 following (t ∷ ts) = ts
@@ -121,8 +121,8 @@ is_plain_before ts _ = false
 abbrev pub is_plain : List Symbol → Bool
 is_plain ts = is_plain_before (following ts) (next ts)
 
--- Returns true if the symbols continue an operand of the next operator level: by arguments, a postfix, or an operator up
--- to the level `below`.
+-- Returns true if the symbols continue an operand of the next precedence level: by arguments, a postfix, or an operator
+-- up to the level `below`.
 abbrev pub is_continued : ℕ → List Symbol → Bool
 is_continued below ts = sees signs.LeftParen ts || ((sees signs.LeftBracket ts || sees signs.Arrow ts) || is_some (level_at 0 below (next ts)))
 
@@ -133,14 +133,14 @@ operand room inner below = unary room inner >>= climb (unary room inner) below
 abbrev pub then_operation : Operation → Operations → Operations
 then_operation o = ThenOperation o.operator (place_of_span o.span) (view_expression o.operand)
 
--- Reads an operator with its operand, and returns them as a function of the operations that follow.
+-- Reads an operator with its operand, and returns a function that puts them in front of the operations that follow.
 abbrev pub one_operation : Parser Expression → ℕ → Parser (Option (Operations → Operations))
 one_operation operand k = choose (λ t. elim (operator_at k t) [
   | None ↦ pure None
   | Some o ↦ advance >>= (λ p. operand >>= (λ e. pure (Some (ThenOperation o p e))))
 ])
 
--- Extends a first operand by the operators of a given number of levels above the level `below`.
+-- Extends a first operand by the operators of a given number of precedence levels, the first of which follows the level `below`.
 unfoldable pub climb_from : Parser Expression → ℕ → ℕ → Expression → Parser Expression
 climb_from tightest below zero e = pure e
 climb_from tightest below (suc count) e = operations (tightest >>= climb tightest below) (suc below) max_items >>= (λ os. climb_from tightest (suc below) count (binary_of e os))

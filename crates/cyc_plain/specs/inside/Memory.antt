@@ -18,13 +18,13 @@ slots_base = STORE_BASE + 4 * (PAGE_WORDS * MOST_PAGES)
 abbrev pub slots_end : ℕ
 slots_end = 2 ^ 31
 
--- `IsBelow` says that the slots of a call of this function may be allocated from `base` on: they end below `above`.
+-- `IsBelow` says that the slots of a call of this function may be allocated from address `base` on: they end below address `above`.
 pub record IsBelow (program : Program) (function base above : ℕ) : Type 0 where
   pub aligned : base % 4 ≡ 0
   pub low : slots_base ≤ base
   pub high : base + 4 * (routine_at program function).slots ≤ above
 
--- `AreBelow` says that the slots of each call lie below those of its caller.
+-- `AreBelow` says that the slots of each call have lower addresses than those of its caller.
 abbrev pub AreBelow : Program → (function base : ℕ) → List Frame → Type 0
 AreBelow program function base [] = IsBelow program function base slots_end
 AreBelow program function base (f ∷ frames) =
@@ -46,7 +46,8 @@ abbrev pub is_pinned : List Instruction → (slot : ℕ) → Bool
 is_pinned [] slot = false
 is_pinned (i ∷ code) slot = pins i slot || is_pinned code slot
 
--- Returns the index of the word at this address among consecutive words from `base` on, if the predicate `is_asked` accepts the index.
+-- Returns the index of the word at this address among consecutive words from address `base` on, if the predicate `is_asked` accepts
+-- the index.
 abbrev pub numbered : (is_asked : ℕ → Bool) → (base address : ℕ) → Option ℕ
 numbered is_asked base address =
     if base + 4 * ((address - base) / 4) == address && is_asked ((address - base) / 4) then Some ((address - base) / 4) else None
@@ -76,7 +77,7 @@ put_or (Some slot) word f frames others =
     record f { caller = record f.caller { slots = put f.caller.slots slot word } } ∷ frames
 put_or None word f frames others = f ∷ others
 
--- Returns the waiting calls after a word is written to an address.
+-- Returns the waiting calls after a word is written to an address in memory, which may be that of one of their slots.
 abbrev pub with_waiting : Program → List Frame → (address word : ℕ) → List Frame
 with_waiting program [] address word = []
 with_waiting program (f ∷ frames) address word =

@@ -45,8 +45,8 @@ pub record Frame : Type 0 where
   pub caller : Activation
   pub result : ℕ
 
--- A running configuration of the plain machine: the active call, the waiting calls, newest first, and the parts of the state
--- that all calls share.
+-- A running configuration of the plain machine: the active call, the waiting calls, newest first, and the globals, store,
+-- output and input that all calls share.
 pub record Configuration : Type 0 where
   pub active : Activation
   pub frames : List Frame

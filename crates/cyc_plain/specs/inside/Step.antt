@@ -1,5 +1,5 @@
--- The meaning of a plain program. A step is a function of the state and of a choice. Steps form a relation, since any allowed choice may be
--- made.
+-- The meaning of a plain program. A step is a function of the state and of a choice of the values that the step leaves open. Steps form a
+-- relation, since any allowed choice may be made.
 use Rattle.std.specs.Prelude.{◌≡◌, ℕ, zero, suc, ◌+◌, ◌-◌, ◌*◌, ◌%◌, ◌^◌, Bool, ◌==◌, ◌&&◌, nat_le, List, [], ◌∷◌, ◌++◌, drop, Option, Some, None, unwrap_or, slice_get, slice_index, if◌then◌else◌}
 use Rattle.cyc_words.specs.Word.{IsWord, signed, add_of}
 use Rattle.cyc_words.specs.Bytes.{byte_in, with_byte, word_of}
@@ -97,7 +97,7 @@ saves_byte program c address byte (Some old) =
     Running (advanced (with_memory program c (word_of address) (with_byte old (address % 4) byte)))
 saves_byte program c address byte None = Stuck c.output c.input
 
--- Returns the call of the store that a request makes.
+-- Returns the call of the store (heap of regions) for a request, with the words of its operands.
 abbrev pub call_in : Words → Request → Call
 call_in slots (requests.OpenLexical destination) = services.OpenLexical
 call_in slots (requests.CloseTo mark) = services.CloseTo (operand_word slots mark)
@@ -119,17 +119,17 @@ abbrev pub served_to : services.Choice → Configuration → (destination : ℕ)
 served_to serving c destination call =
     advanced (with_slots (record c { store = served c.store call serving }) (reported (answer c.store call serving) destination c.active.slots))
 
--- Returns the state after a call of the store. If memory for the result is lacking, the run ends for every choice, since the pages
--- required depend only on sizes. A refusal for another reason makes the run stuck.
+-- Returns the state after a call of the store. If memory for the result is lacking, the run ends for every choice of the store,
+-- since the pages required depend only on sizes. A refusal for another reason makes the run stuck.
 abbrev pub asks : services.Choice → Configuration → (destination : ℕ) → Call → Option Refusal → State
 asks serving c destination call None = Running (served_to serving c destination call)
 asks serving c destination call (Some services.Full) = Ended Full c.output c.input
 asks serving c destination call (Some why) = Stuck c.output c.input
 
--- Exception handlers. The record of a handler occupies slots and is read only by the machine code generated from the plain program. If the
--- record was overwritten, the run gets stuck.
+-- The effect of instructions on exception handlers. The record of a handler occupies slots and is read only by the machine code generated
+-- from the plain program. If a handler's record was overwritten, the run gets stuck.
 
--- Returns true if the slots of a handler's record still have the contents from when the handler was opened.
+-- Returns true if the slots of a handler's record still have the words from when the handler was opened.
 abbrev pub is_intact : Words → (first : ℕ) → (contents : Words) → Bool
 is_intact slots first contents =
     slots first == contents 0
@@ -262,14 +262,15 @@ asked program (Running c) = call_of c.active.slots (instruction_at program (plac
 asked program (Ended ending output input) = None
 asked program (Stuck output input) = None
 
--- `HasAnswerWords` says that the store's result consists of words.
+-- `HasAnswerWords` says that each handle, address or count in the store's result fits in a machine word.
 abbrev pub HasAnswerWords : Answer → Type 0
 HasAnswerWords (services.Opened handle) = IsWord handle
 HasAnswerWords (services.OpenedLexical handle mark) = IsWord handle × IsWord mark
 HasAnswerWords (services.Allocated address) = IsWord address
 HasAnswerWords other = Unit {0}
 
--- `IsServed` says that the store allows a choice for a call, and that the result consists of words.
+-- `IsServed` says that the store allows this choice of handle, address and memory contents for a call, and that its result fits in machine
+-- words.
 pub record IsServed (store : StoreState) (call : Call) (serving : services.Choice) : Type 0 where
   pub allowed : services.IsAllowed store call serving
   pub words : HasAnswerWords (answer store call serving)
@@ -291,13 +292,14 @@ called program (Running c) = callee_of (instruction_at program (place_of (Runnin
 called program (Ended ending output input) = None
 called program (Stuck output input) = None
 
--- `MayLie` says that the slots of a new call lie below those of its caller. For `Enter`, it requires that they could lie there.
+-- `MayLie` says that the slots of a new call have lower addresses than those of its caller. For `Enter`, which makes no call,
+-- `MayLie` requires that a call's slots could have such addresses.
 abbrev pub MayLie : Program → (base : ℕ) → Option ℕ → State → Type 0
 MayLie program base (Some function) (Running c) = IsBelow program function base c.active.base
 MayLie program base callee s = Unit {0}
 
--- `IsAllowed` describes the choices that a step allows: words, an address with space for the slots of a new call, and a choice of the
--- store that the store allows.
+-- `IsAllowed` describes the choices that a step allows. The initial values of a new call's slots are machine words, and there is
+-- space for the slots at the chosen address. The choice of handle, address and memory contents is one that the store allows.
 pub record IsAllowed (program : Program) (s : State) (choice : Choice) : Type 0 where
   pub contents : AreWords choice.contents
   pub lies : MayLie program choice.base (called program s) s
@@ -365,7 +367,7 @@ machine program pages calls = record {
   status = status_of;
 }
 
--- Returns the state after `n` steps that all make the same choice.
+-- Returns the state after `n` steps that all make the same choice of the values that a step leaves open.
 abbrev pub run : Program → (pages calls : ℕ) → Choice → ℕ → State → State
 run program pages calls choice zero s = s
 run program pages calls choice (suc n) s =

@@ -47,7 +47,7 @@ configuration_or (Running c) other = c
 configuration_or (Ended ending output input) other = other
 configuration_or (Stuck output input) other = other
 
--- Returns the configuration after straight-line code, which does not depend on the choice.
+-- Returns the configuration after straight-line code, which does not depend on the values that the steps choose.
 abbrev pub executed_in : Program → Choice → Configuration → List Instruction → Configuration
 executed_in program choice c [] = c
 executed_in program choice c (i ∷ is) =

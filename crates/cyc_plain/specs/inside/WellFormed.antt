@@ -1,4 +1,5 @@
--- A well-formed plain program: everything that its instructions name exists, and the size of its frames is within the limit.
+-- A well-formed plain program: all slots, jump targets, globals and functions that its instructions name exist, and the size
+-- of its frames is within the limit.
 use Rattle.std.specs.Prelude.{◌≡◌, ◌≢◌, ℕ, ◌+◌, ◌-◌, ◌<◌, ◌≤◌, Bool, true, false, length, sum_by, All, IsSomeAnd, Option, Some, None, slice_get}
 use Rattle.cyc_words.specs.Word.{IsWord, add_of}
 use Rattle.cyc_words.specs.Bytes.{word_of}
@@ -34,7 +35,8 @@ abbrev pub IsOperand : Routine → Operand → Type 0
 IsOperand r (operands.Slot number) = number < r.slots
 IsOperand r (operands.Word word) = Unit {0}
 
--- `IsMoveInRange` says that the slots of a move of several words exist, and that the move copies no more words than a value can have.
+-- `IsMoveInRange` concerns an instruction that moves several words. It says that the slots of the move exist, and that the move
+-- copies no more words than a value can have.
 pub record IsMoveInRange (r : Routine) (destination source count : ℕ) : Type 0 where
   pub some : 0 < count
   pub few : count ≤ GREATEST_VALUE
@@ -108,8 +110,8 @@ leaves (instructions.Uncaught tag value) = true
 leaves instruction = false
 
 -- `IsRoutine` says that a function is well-formed: its parameters are slots, and its result is at most one value. The function's frame
--- has space for the slots and for the words that `layout` adds. Everything that the function's instructions name exists, and its last
--- instruction never falls through.
+-- has space for the slots and for the words that `layout` adds. All slots, jump targets, globals and functions that the function's
+-- instructions name exist, and its last instruction never falls through.
 pub record IsRoutine (program : Program) (r : Routine) : Type 0 where
   pub parameters : r.parameters ≤ r.slots
   pub results : r.results ≤ GREATEST_VALUE
@@ -126,7 +128,7 @@ pub record IsWellFormed (program : Program) : Type 0 where
   pub main_results : (routine_at program program.main).results ≡ 1
   pub globals : length program.globals ≤ MOST_GLOBALS
 
--- All numbers of a program fit machine words: its constant operands, its tags, and the initial values of its globals.
+-- The numbers in a program fit machine words: its constant operands, its exception tags, and the initial values of its globals.
 abbrev pub IsOfWord : Operand → Type 0
 IsOfWord (operands.Slot number) = Unit {0}
 IsOfWord (operands.Word word) = IsWord word
@@ -155,7 +157,8 @@ pub record HasWords (program : Program) : Type 0 where
   pub functions : All (λ r. All HasWord r.code) program.functions
   pub globals : All IsWord program.globals
 
--- `IsPlain` is the invariant of every value of type `Plain`.
+-- `IsPlain`, the invariant of the type `Plain`, says that the program is well-formed, its numbers
+-- fit machine words, and its code is within the size limit.
 pub record IsPlain (program : Program) : Type 0 where
   pub well_formed : IsWellFormed program
   pub words : HasWords program

@@ -1,4 +1,4 @@
--- Bit masks of slots: one for the slots known to equal another slot (copies), and one for the slots that some fact mentions.
+-- Bit masks of slots: one for the slots known to equal another slot (copies), and one for the slots that occur in some fact.
 use Rattle.std.specs.Prelude.{◌≡◌, ℕ, ◌%◌, List}
 use Rattle.std.specs.List.{AllByRecursion}
 use Rattle.std.specs.Int.{bit_at}

@@ -1,4 +1,5 @@
--- The facts required at jump targets, as the code stores them, and the two halves of the check: for jumps and for the next instruction.
+-- The facts required at jump targets, in the form in which the Rust code stores them. The check of these facts has two halves: one for
+-- jumps, and one for the step to the next instruction.
 use Rattle.std.specs.Prelude.{◌≡◌, ℕ, ◌+◌, ◌<◌, ◌≤◌, Bool, true, false, not, ◌==◌, ◌&&◌, ◌||◌, if◌then◌else◌, List, length, Option, Some, None, slice_get, slice_index_or}
 use Rattle.cyc_plain.specs.declared.instruction.Instruction.{Instruction}
 use Rattle.cyc_plain.specs.declared.instruction.Instruction.TheVariants as instructions
@@ -84,19 +85,19 @@ IsWalkedBySome program r pinned code = (entries : List Entry) × IsWalked progra
 abbrev pub with_code : Routine → List Instruction → Routine
 with_code r code = record r { code = code }
 
--- `AreFirstReplaced` says that the first `count` functions of a program are replaced.
+-- `AreFirstReplaced` says that the first `count` functions of a program are replaced by their simplified forms.
 pub record AreFirstReplaced (program : Program) (count : ℕ) (routines : List Routine) : Type 0 where
   pub as_many : length routines ≡ count
   pub each : (k : ℕ) → k < count → IsReplaced program (routine_at program k) (slice_index_or routines k no_routine)
 
--- Returns true if a fact does not mention this slot.
+-- Returns true if this slot does not occur in a fact.
 abbrev pub leaves_out : (slot : ℕ) → Fact → Bool
 leaves_out slot (facts_are.Equal other operand) = not (other == slot) && not (is_slot operand slot)
 leaves_out slot (facts_are.Computed other operator left right) = not (other == slot) && (not (is_slot left slot) && not (is_slot right slot))
 leaves_out slot (facts_are.Holds comparison left right) = not (is_slot left slot) && not (is_slot right slot)
 leaves_out slot (facts_are.Held address offset value) = not (is_slot address slot) && not (is_slot value slot)
 
--- Returns true if a fact does not mention memory that may be changed.
+-- Returns true if a fact says nothing about the part of memory that an instruction may change.
 abbrev pub leaves_memory : Touched → Fact → Bool
 leaves_memory touched (facts_are.Held address offset value) = is_untouched touched address offset
 leaves_memory touched fact = true

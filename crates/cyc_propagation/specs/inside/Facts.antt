@@ -156,7 +156,7 @@ abbrev pub suits_operand : List Bool → Operand → Bool
 suits_operand pinned (operands.Slot number) = is_free pinned number
 suits_operand pinned (operands.Word word) = nat_lt word (2 ^ 32)
 
--- Returns true if a fact mentions only words and slots whose address is not taken.
+-- Returns true if a fact contains only slots whose address is not taken, and constants that fit a machine word.
 abbrev pub suits : List Bool → Fact → Bool
 suits pinned (facts_are.Equal slot operand) = is_free pinned slot && suits_operand pinned operand
 suits pinned (facts_are.Computed slot operator left right) =
@@ -237,7 +237,7 @@ is_untouched touches.Nothing address offset = true
 is_untouched (touches.Word other written) address offset = is_same_operand other address && are_apart written offset
 is_untouched touches.All address offset = false
 
--- Returns true if a fact is preserved: no slot that it mentions is written, and no word of memory that it mentions is changed.
+-- Returns true if a fact is preserved: no slot in the fact is written, and no word of memory in the fact is changed.
 abbrev pub keeps : Written → Touched → Fact → Bool
 keeps slots touched (facts_are.Equal slot operand) = leaves_slot slots slot && leaves_operand slots operand
 keeps slots touched (facts_are.Computed slot operator left right) =
@@ -352,7 +352,7 @@ abbrev pub are_copied : List Bool → (destination source count : ℕ) → Bool
 are_copied pinned destination source count =
     lie_apart destination source count && (are_free pinned destination count && are_free pinned source count)
 
--- Returns the fact that the word copied at `index` of a move equals its source, if the move copies that many words.
+-- Returns the fact that the word at `index` among the words that a move copies equals its source word, if the move copies that many words.
 abbrev pub copied : List Bool → Instruction → (index : ℕ) → Option Fact
 copied pinned (instructions.MoveWords destination source count) index =
     if nat_lt index count && are_copied pinned destination source count
@@ -360,7 +360,8 @@ copied pinned (instructions.MoveWords destination source count) index =
     else None
 copied pinned instruction index = None
 
--- Returns the facts with those about copied words: at most three, the words of a pointer with its bounds.
+-- Returns the list of facts, extended by facts that copied words equal their sources: at most three, for
+-- the words of a pointer with its bounds.
 abbrev pub with_copies : List Bool → Instruction → List Fact → List Fact
 with_copies pinned i facts = remembered (remembered (remembered facts (copied pinned i 0)) (copied pinned i 1)) (copied pinned i 2)
 

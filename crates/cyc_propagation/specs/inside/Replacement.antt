@@ -53,8 +53,8 @@ abbrev pub word_in : List Fact → Operand → Option ℕ
 word_in [] operand = own_word operand
 word_in (fact ∷ facts) operand = or_number (word_by fact operand) (word_in facts operand)
 
--- Returns true if this operator's machine instruction can contain a small constant as its second
--- operand, so that the constant needs no extra instruction.
+-- Returns true if this operator's machine instruction can contain a small constant as its second operand, so that the constant needs no
+-- extra instruction.
 abbrev pub takes_word : BinaryOperator → Bool
 takes_word binary.And = true
 takes_word binary.Or = true
@@ -106,7 +106,8 @@ simplified_unary (Some word) operator destination operand = instructions.Move de
 simplified_unary None operator destination operand = instructions.Unary operator destination operand
 
 -- Returns true if folding loses no knowledge of the result: the left operand is a constant, or the operator overwrites one of its own
--- operands. In all other cases the operator is kept, so that a value that a loop recomputes from the same slots is known at its header.
+-- operands. In all other cases the operator is kept, so that a value that a loop recomputes from the same slots is known at the loop's
+-- header.
 abbrev pub may_fold : (destination : ℕ) → (left right : Operand) → Bool
 may_fold destination left right = not (is_cheap left) || (is_slot left destination || is_slot right destination)
 

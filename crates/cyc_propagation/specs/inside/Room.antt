@@ -50,11 +50,11 @@ pub record IsRoomTable (slots : ℕ → ℕ) (code : List Instruction) (rooms : 
 abbrev pub room_at : List ℕ → (place : ℕ) → ℕ
 room_at rooms place = slice_index_or rooms place 0
 
--- Returns true if a code position requires no more than this stack space.
+-- Returns true if the stack space recorded for a code position is at most this much.
 abbrev pub is_enough : List ℕ → (room place : ℕ) → Bool
 is_enough rooms room place = nat_le (room_at rooms place) room
 
--- Returns true if each successor of an instruction requires at most this much stack space.
+-- Returns true if the stack space recorded for each successor of an instruction is at most this much.
 abbrev pub leads_to_enough : List ℕ → (room : ℕ) → Instruction → (index : ℕ) → Bool
 leads_to_enough rooms room (instructions.Jump target) index = is_enough rooms room target
 leads_to_enough rooms room (instructions.Branch comparison left right target) index =
@@ -85,8 +85,8 @@ pub record IsSparedCode (slots : ℕ → ℕ) (code spared : List Instruction) :
   pub each : (index : ℕ) (i : Instruction) → slice_get code index ≡ Some i
       → slice_get spared index ≡ Some (spared_instruction slots (rooms index) index i)
 
--- `AreSparedFirst` says that the first `count` instructions are checked, and that the redundant
--- checks for stack space among them are dropped.
+-- `AreSparedFirst` says that the first `count` instructions are checked, and that the redundant checks for stack space among them are
+-- dropped.
 pub record AreSparedFirst (slots : ℕ → ℕ) (code : List Instruction) (rooms : List ℕ) (count : ℕ) (spared : List Instruction) : Type 0 where
   pub as_many : length spared ≡ count
   pub each : (index : ℕ) (i : Instruction) → slice_get code index ≡ Some i → index < count

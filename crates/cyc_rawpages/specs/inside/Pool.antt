@@ -39,7 +39,7 @@ new_pool pages = record {
   chains = replicate pages [];
 }
 
--- The bits after `count` bits from `first` on are set to `value`.
+-- Gives each bit of the pool after `count` bits, from `first` on, are set to `value` and the others are left as they were.
 abbrev pub between : (old : ℕ → Bool) → (first count : ℕ) → (value : Bool) → ℕ → Bool
 between old first count value number = if nat_le first number && nat_lt number (first + count) then value else old number
 
@@ -50,7 +50,8 @@ abbrev pub tabulate : {A : Type 0} → (count : ℕ) → (ℕ → A) → List A
 tabulate zero f = []
 tabulate (suc count) f = f 0 ∷ tabulate count (λ k. f (suc k))
 
--- The index of a field of a page's header, among the pool's first words with all pages' headers and bits.
+-- The index of a field of a page's header, among the words at the pool's start. These words hold, for
+-- each page, a header and 1,024 bits, one for each word of the page.
 abbrev pub header_at : (page field : ℕ) → ℕ
 header_at page field = HEAD_WORDS * page + field
 
@@ -60,7 +61,8 @@ field_of raw field page = slice_index raw.heads (header_at page field)
 abbrev pub serial_of : Parts → (page : ℕ) → ℕ
 serial_of raw page = field_of raw LOW page + 2 ^ 32 * field_of raw HIGH page
 
--- The index of the word that contains a bit; the words of a page's bits follow the page's header. Bits are numbered across all pages.
+-- The index of the word that contains a bit; each page has 1,024 bits, one for each of its words. The words with a page's bits follow
+-- the page's header. Bits are numbered across all pages.
 abbrev pub bits_at : (number : ℕ) → ℕ
 bits_at number = header_at (number / PAGE_WORDS) (HEADER_WORDS + number % PAGE_WORDS / 32)
 
@@ -108,7 +110,8 @@ IsChain pages next tail home head [] = Unit {0}
 IsChain pages next tail home head (x ∷ xs) =
     (x ≡ head) × Runs next x xs (tail head) × IsDistinct (x ∷ xs) × AllByRecursion (IsIn pages home head) (x ∷ xs)
 
--- Says that the pages of a pool are linked consistently. No page is in two lists, because each page has one home.
+-- Says that the pages of a pool are linked consistently. No page is in two lists, because each page has one home:
+-- the head of its chain, or `NONE` if it is free.
 pub record IsLinkedUp (pages : ℕ) (next tail : ℕ → ℕ) (first : ℕ) (l : Lists) : Type 0 where
   pub few : pages ≤ MOST_PAGES
   pub many : length l.chains ≡ pages

@@ -1,4 +1,5 @@
--- The code positions chosen to fill delay slots, computed from the homes and a table of the live candidate slots.
+-- The code positions chosen to fill delay slots, computed from the slots' homes (registers or memory) and a table
+-- of the live candidate slots.
 use Rattle.std.specs.Prelude.{◌≡◌, ℕ, ◌+◌, ◌<◌, Bool, true, false, ◌==◌, ◌&&◌, not, nat_lt, if◌then◌else◌, List, length, Option, Some, slice_get, slice_set, bit_and}
 use Rattle.cyc_plain.specs.declared.instruction.Comparison.{Comparison}
 use Rattle.cyc_plain.specs.declared.instruction.Instruction.{Instruction}
@@ -10,7 +11,8 @@ use Rattle.cyc_registers.specs.inside.Fills.{fills_at}
 use Rattle.cyc_registers.specs.inside.Interference.{home_of}
 use Rattle.cyc_registers.specs.inside.Masks.{mask_at}
 
--- Returns the slots that share the register of the given home. `holders` lists the slots of each register.
+-- Returns the slots that share the register of the given home (a register, memory or both). `holders`
+-- contains for each register the slots that have it.
 abbrev pub holders_of : (holders : List ℕ) → Home → ℕ
 holders_of holders homes.Memory = 0
 holders_of holders (homes.Both register) = mask_at holders register
@@ -29,8 +31,8 @@ may_fill holders live hs index (Some (instructions.Binary operator destination l
     is_free holders live hs index destination
 may_fill holders live hs index other = false
 
--- Returns the positions that may still fill delay slots after the branch at `index`. A branch excludes its target, unless the target
--- may fill the branch's delay slot.
+-- Returns the code positions that may still fill delay slots after the branch at `index` was examined. A branch excludes its target
+-- from filling delay slots, unless the target may fill this branch's delay slot.
 abbrev pub barring : (holders live : List ℕ) → List Home → List Instruction → (index : ℕ) → Instruction
     → (fills : List Bool) → List Bool
 barring holders live hs code index (instructions.Branch comparison left right target) fills =
@@ -39,8 +41,8 @@ barring holders live hs code index (instructions.Branch comparison left right ta
     else fills
 barring holders live hs code index i fills = fills
 
--- Says that `fills` marks the positions that may fill delay slots after the branches among the first `count`
--- instructions have excluded their targets.
+-- Says that `fills` marks the code positions that may fill delay slots. The branches among the first `count` instructions have excluded
+-- their targets from the marked positions, unless these may fill their delay slots.
 pub record AreLeft (holders live : List ℕ) (hs : List Home) (code : List Instruction) (count : ℕ) (fills : List Bool) : Type 0 where
   pub as_many : length fills ≡ length code
   pub each : (index target : ℕ) (comparison : Comparison) (left right : Operand) (i : Instruction) → index < count

@@ -1,5 +1,5 @@
--- Idle instructions: control always continues after them, and each word that they write is never read or is already in its register. Idle
--- instructions need no machine code.
+-- Instructions that need no machine code: control always continues after them, and each word that they write is never read or is already
+-- in its register. Such instructions are called idle.
 use Rattle.std.specs.Prelude.{◌≡◌, ℕ, suc, ◌<◌, ◌≤◌, ◌⊎◌, Bool, true, false, List, slice_index_or}
 use Rattle.cyc_plain.specs.declared.instruction.BinaryOperator.{BinaryOperator}
 use Rattle.cyc_plain.specs.declared.instruction.BinaryOperator.TheVariants as operators
@@ -22,7 +22,7 @@ always_has_result operators.Divide = false
 always_has_result operators.Remainder = false
 always_has_result operator = true
 
--- Says that the two operands are constants whose comparison does not hold.
+-- Says that the two operands of a branch are constants for which its comparison does not hold.
 abbrev pub NeverHolds : Comparison → (left right : Operand) → Type 0
 NeverHolds comparison (operands.Word left) (operands.Word right) = compares comparison left right ≡ false
 NeverHolds comparison left right = ⊥
@@ -31,7 +31,7 @@ NeverHolds comparison left right = ⊥
 abbrev pub IsUnused : Program → Routine → List Home → (index slot : ℕ) → Type 0
 IsUnused program r hs index slot = (is_kept (home_of hs slot) ≡ false) × (IsLiveAt program r slot (suc index) → ⊥)
 
--- Says that the word that a move copies is already in the destination slot's register, which is the only home of this slot.
+-- Says that the word that a move copies is already in the destination slot's register, and that this slot is not also in memory.
 abbrev pub IsThere : List Home → (slot : ℕ) → Operand → Type 0
 IsThere hs slot (operands.Slot number) =
     (register : ℕ) × (home_of hs slot ≡ homes.Register register) × HasRegister hs number register
@@ -42,11 +42,11 @@ IsThere hs slot (operands.Word word) = ⊥
 abbrev pub idle_at : List Bool → (index : ℕ) → Bool
 idle_at idle index = slice_index_or idle index false
 
--- Says that the instructions from `first` up to `end`, exclusive, are marked as needing no machine code.
+-- Says that the instructions from index `first` up to `end`, exclusive, are marked as needing no machine code.
 abbrev pub AreIdleFrom : (idle : List Bool) → (first end : ℕ) → Type 0
 AreIdleFrom idle first end = (k : ℕ) → first ≤ k → k < end → idle_at idle k ≡ true
 
--- Says that an instruction jumps forward, to the next instruction or over instructions that need no machine code.
+-- Says that an instruction jumps forward, to the next instruction or over instructions only that need no machine code.
 abbrev pub LeadsOver : (idle : List Bool) → (index : ℕ) → Instruction → Type 0
 LeadsOver idle index (instructions.Jump target) = (suc index ≤ target) × AreIdleFrom idle (suc index) target
 LeadsOver idle index i = ⊥
@@ -65,7 +65,7 @@ IsIdle program r hs idle index (instructions.Branch comparison left right target
     (target ≡ suc index) ⊎ NeverHolds comparison left right
 IsIdle program r hs idle index i = ⊥
 
--- Says that each instruction listed as needing no machine code needs none. Unlisted instructions may need no machine code either.
+-- Says that each instruction flagged as needing no machine code needs none. Instructions without a flag may need no machine code either.
 abbrev pub AreIdle : Program → Routine → List Home → (idle : List Bool) → Type 0
 AreIdle program r hs idle =
     (index : ℕ) (i : Instruction) → At r index i → idle_at idle index ≡ true → IsIdle program r hs idle index i

@@ -1,4 +1,5 @@
--- The instructions listed as needing no machine code, computed from the homes and a table of the live candidate slots.
+-- The computation of the instructions that need no machine code, from the slots' homes (registers or memory) and a
+-- table of the live candidate slots.
 use Rattle.std.specs.Prelude.{ℕ, zero, suc, ◌+◌, Bool, true, false, ◌==◌, ◌&&◌, ◌||◌, not, nat_lt, List, bit_and}
 use Rattle.cyc_plain.specs.declared.instruction.Comparison.{Comparison}
 use Rattle.cyc_plain.specs.declared.instruction.Comparison.TheVariants as comparisons
@@ -18,25 +19,25 @@ abbrev pub never_holds : Comparison → (left right : Operand) → Bool
 never_holds comparisons.NotEqual (operands.Word left) (operands.Word right) = left == right
 never_holds comparison left right = false
 
--- Returns true if the first home is a register only, and the second home has the first one's register.
+-- Returns true if the first home (register, memory or both) is a register only, and the second home has the same register.
 abbrev pub shares_register : (home other : Home) → Bool
 shares_register (homes.Register register) (homes.Register other) = register == other
 shares_register (homes.Register register) (homes.Both other) = register == other
 shares_register home other = false
 
--- Returns true if the slot is a candidate that, by the liveness table, is not live after the instruction at `index`.
+-- Returns true if the slot is a candidate for registers and, by the liveness table, is not live after the instruction at `index`.
 abbrev pub is_unused : (masks live : List ℕ) → List Home → (index slot : ℕ) → Bool
 is_unused masks live hs index slot =
     nat_lt 0 (mask_at masks slot)
     && (bit_and (mask_at live (index + 1)) (mask_at masks slot) == 0 && not (is_kept (home_of hs slot)))
 
--- Returns true if the `count` slots from `first` on are in registers only and not live after the instruction at `index`.
+-- Returns true if the `count` slots from slot `first` on are in registers only and not live after the instruction at `index`.
 abbrev pub are_unused : (masks live : List ℕ) → List Home → (index first count : ℕ) → Bool
 are_unused masks live hs index first zero = true
 are_unused masks live hs index first (suc count) =
     are_unused masks live hs index first count && is_unused masks live hs index (first + count)
 
--- Returns true if the word that a move copies is already in the destination slot's register, which is the only home of this slot.
+-- Returns true if the word that a move copies is already in the destination slot's register, and this slot is not also in memory.
 abbrev pub is_there : List Home → (slot : ℕ) → Operand → Bool
 is_there hs slot (operands.Slot number) = shares_register (home_of hs slot) (home_of hs number)
 is_there hs slot (operands.Word word) = false

@@ -15,7 +15,7 @@ IsLiveWithin program r slot (suc steps) index =
 abbrev pub IsLiveAt : Program → Routine → (slot index : ℕ) → Type 0
 IsLiveAt program r slot index = (steps : ℕ) × IsLiveWithin program r slot steps index
 
--- Says that the slot is live at the start of a handler of the function. An exception can reach the handler from any call.
+-- Says that the slot is live at the start of an exception handler of the function. An exception can reach the handler from any call.
 abbrev pub IsLiveInClause : Program → Routine → (slot : ℕ) → Type 0
 IsLiveInClause program r slot =
     (index first handler : ℕ) × At r index (instructions.Try first handler) × IsLiveAt program r slot handler

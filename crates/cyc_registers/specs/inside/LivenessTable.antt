@@ -1,6 +1,6 @@
 -- A table of the candidate slots that are live at each code position, and its check, instruction by instruction. The table is
 -- untrusted: if the check succeeds everywhere, the table misses no live slot. `calls` contains the slots live after a call, `clauses`
--- those live in a handler, and `barred` those excluded from registers.
+-- those live in an exception handler, and `barred` those excluded from registers.
 use Rattle.std.specs.Prelude.{◌≡◌, ℕ, ◌+◌, Bool, true, ◌==◌, ◌&&◌, ◌||◌, nat_lt, List, bit_and, bit_or, bit_xor}
 use Rattle.cyc_plain.specs.declared.instruction.Instruction.{Instruction}
 use Rattle.cyc_plain.specs.declared.instruction.Instruction.TheVariants as instructions
@@ -22,7 +22,7 @@ after_mask (instructions.Finish value) index live = 0
 after_mask (instructions.Uncaught tag value) index live = 0
 after_mask instruction index live = mask_at live (index + 1)
 
--- Returns the mask of all candidates except those that an instruction writes.
+-- Returns the mask of all candidates for registers except those that an instruction writes.
 abbrev pub unwritten_mask : Uses → ℕ
 unwritten_mask uses = bit_xor ALL_NUMBERS uses.writes
 
@@ -37,7 +37,7 @@ call_mask uses (instructions.Call function arguments count result) index live =
     bit_and (mask_at live (index + 1)) (unwritten_mask uses)
 call_mask uses instruction index live = 0
 
--- Returns the slots that must also be in memory: those live in the handler that an instruction opens.
+-- Returns the slots that must also be in memory: those live in the exception handler that an instruction opens.
 abbrev pub clause_mask : Instruction → List ℕ → ℕ
 clause_mask (instructions.Try first handler) live = mask_at live handler
 clause_mask instruction live = 0
@@ -56,8 +56,8 @@ abbrev pub IsSound : Program → Routine → (masks live : List ℕ) → (calls 
 IsSound program r masks live calls clauses barred =
     (index : ℕ) (i : Instruction) → At r index i → is_sound_at (uses_of program r.results masks i) i index live calls clauses barred ≡ true
 
--- Returns true if a slot may have a register: it is a candidate, no instruction excludes it, and at the entry it is not live or
--- is a parameter.
+-- Returns true if a slot may have a register: it is a numbered candidate, no instruction excludes it, and at the function's
+-- entry it is not live or is a parameter.
 abbrev pub may_have : (masks live : List ℕ) → (barred parameters slot : ℕ) → Bool
 may_have masks live barred parameters slot =
     nat_lt 0 (mask_at masks slot)

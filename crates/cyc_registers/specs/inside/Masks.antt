@@ -1,5 +1,5 @@
--- Sets of candidate slots as bit masks: bit j stands for candidate number j. `masks` maps each slot to its bit, or to 0 if the slot is no
--- candidate. One pass over the code thus handles all candidates at once.
+-- Sets of candidate slots (those that may get registers) as bit masks: bit j stands for candidate number j. `masks` maps each slot to its
+-- bit, or to 0 if the slot is no candidate for a register. One pass over the code thus handles all candidates for registers at once.
 use Rattle.std.specs.Prelude.{◌≡◌, ℕ, zero, suc, ◌+◌, ◌<◌, if◌then◌else◌, List, Some, bit_or, slice_get, slice_index_or}
 use Rattle.std.specs.Int.{bit_at}
 use Rattle.cyc_plain.specs.declared.instruction.Instruction.{Instruction}
@@ -14,15 +14,15 @@ use Rattle.cyc_plain.specs.inside.Uses.{At}
 use Rattle.cyc_registers.specs.declared.uses.Uses.{Uses}
 use Rattle.cyc_registers.specs.inside.Bars.{is_crossing}
 
--- Returns the mask of a slot or of a position in the code, or 0 if there is none.
+-- Returns the entry of a list of masks for a slot or a code position, or 0 if there is no entry.
 abbrev pub mask_at : List ℕ → (place : ℕ) → ℕ
 mask_at masks place = slice_index_or masks place 0
 
--- Says that the slot is candidate number j.
+-- Says that the slot is number j of the candidates for registers.
 abbrev pub HasBit : List ℕ → (slot j : ℕ) → Type 0
 HasBit masks slot j = bit_at (mask_at masks slot) j ≡ 1
 
--- Says that `masks` are masks of the candidates with numbers below `next`, each the bit of one slot.
+-- Says that `masks` are masks of the candidates for registers with numbers below `next`, each mask the bit of one slot.
 pub record AreMasks (masks : List ℕ) (next : ℕ) : Type 0 where
   pub below : (slot j : ℕ) → HasBit masks slot j → j < next
   pub one : (a c j : ℕ) → HasBit masks a j → HasBit masks c j → a ≡ c
@@ -105,12 +105,14 @@ bar_mask masks (instructions.Try first handler) = range_mask masks first RECORD_
 bar_mask masks (instructions.Leave first) = range_mask masks first RECORD_WORDS
 bar_mask masks instruction = 0
 
--- Returns the candidate slots that an instruction reads, those that it writes, and those that it excludes from registers.
+-- Returns the slots that an instruction reads, those that it writes, and those that it excludes from registers, among the
+-- candidates for registers.
 abbrev pub uses_of : Program → (results : ℕ) → (masks : List ℕ) → Instruction → Uses
 uses_of program results masks i =
     record { reads = read_mask masks results i; writes = write_mask masks program i; bars = bar_mask masks i }
 
--- Says that a table lists the candidate slots that each instruction of a function reads, writes and excludes from registers.
+-- Says that a table contains the slots that each instruction of a function reads, writes and excludes from registers, among
+-- the candidates for registers.
 abbrev pub AreUses : Program → Routine → (masks : List ℕ) → List Uses → Type 0
 AreUses program r masks table =
     (index : ℕ) (i : Instruction) → At r index i → slice_get table index ≡ Some (uses_of program r.results masks i)

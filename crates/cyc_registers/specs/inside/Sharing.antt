@@ -1,5 +1,5 @@
--- The check of the homes (registers or memory of slots). `holders` lists the slots of each register, and `groups` lists those of these
--- sets that have more than one slot. The slots of a group must never interfere.
+-- The check of the homes (registers or memory of slots). `holders` contains for each register the slots that have it, and `groups`
+-- contains those of these sets that have more than one slot. The slots of a group, which share a register, must never interfere.
 use Rattle.std.specs.Prelude.{◌≡◌, ℕ, suc, ◌+◌, ◌-◌, ◌<◌, ◌⊎◌, Bool, true, false, ◌==◌, ◌&&◌, ◌||◌, nat_le, nat_lt, if◌then◌else◌, List, [], ◌∷◌, ◌++◌, length, Some, None, slice_get, bit_and, bit_or}
 use Rattle.std.specs.Int.{bit_at}
 use Rattle.cyc_plain.specs.declared.instruction.Instruction.{Instruction}
@@ -24,9 +24,9 @@ is_single slots = bit_and slots (slots - 1) == 0
 abbrev pub is_given : (saved register : ℕ) → Bool
 is_given saved register = nat_le FIRST_REGISTER register && nat_lt register (FIRST_PRESERVED + saved)
 
--- Returns true if the home of a slot is correct in isolation, and `holders` lists the slot. A slot that is both in a register and in
--- memory shares its register with no slot. A slot live in a handler is in memory. A slot live after a call is in memory or in a
--- callee-saved register.
+-- Returns true if the home of a slot is correct in isolation, and the set of its register in `holders` includes the slot. A slot
+-- that is both in a register and in memory shares its register with no slot. A slot live in an exception handler is in memory. A
+-- slot live after a call is in memory or in a callee-saved register.
 abbrev pub suits : (masks live holders : List ℕ) → (calls clauses barred parameters saved slot : ℕ) → Home → Bool
 suits masks live holders calls clauses barred parameters saved slot homes.Memory = true
 suits masks live holders calls clauses barred parameters saved slot (homes.Both register) =
@@ -42,18 +42,18 @@ abbrev pub AllSuit : (masks live holders : List ℕ) → (calls clauses barred p
 AllSuit masks live holders calls clauses barred parameters saved hs =
     (slot : ℕ) → slot < length hs → suits masks live holders calls clauses barred parameters saved slot (home_of hs slot) ≡ true
 
--- Returns the groups of slots that share a register, with a set of slots appended if the set has more than one slot.
+-- Returns the list of the sets of slots that share a register, extended by a further set if this set has more than one slot.
 abbrev pub with_group : (groups : List ℕ) → (slots : ℕ) → List ℕ
 with_group groups slots = if is_single slots then groups else groups ++ slots ∷ []
 
--- Says that each of the first `count` registers is held by at most one slot, or its holders form a listed group of slots.
+-- Says that at most one slot has each of the first `count` registers, or `groups` contains the set of the slots that have it.
 abbrev pub AreGroups : (holders : List ℕ) → (count : ℕ) → (groups : List ℕ) → Type 0
 AreGroups holders count groups =
     (register : ℕ) → register < count
     → (is_single (mask_at holders register) ≡ true) ⊎ ((number : ℕ) × (slice_get groups number ≡ Some (mask_at holders register)))
 
--- Returns the slots live at an instruction; for a move of several words, also the destinations. No two of the slots live at an
--- instruction may share a register.
+-- Returns the slots live at an instruction; for a move of several words, also the destinations. No two of the returned slots
+-- may share a register.
 abbrev pub standing_mask : Uses → Instruction → (index : ℕ) → List ℕ → ℕ
 standing_mask uses (instructions.MoveWords destination source count) index live = bit_or (mask_at live index) uses.writes
 standing_mask uses i index live = mask_at live index
@@ -67,7 +67,7 @@ abbrev pub AreAlone : (groups : List ℕ) → (set : ℕ) → Type 0
 AreAlone groups set =
     (number slots j l : ℕ) → slice_get groups number ≡ Some slots → bit_at (bit_and set slots) j ≡ 1 → bit_at (bit_and set slots) l ≡ 1 → j ≡ l
 
--- Returns true if the instruction writes no slot of the group, or at most one slot of the group is written or live after it.
+-- Returns true if the instruction writes none of the slots that share a register, or at most one is written or live after it.
 abbrev pub is_apart : (written following slots : ℕ) → Bool
 is_apart written following slots = bit_and written slots == 0 || is_single (bit_and (bit_or written following) slots)
 
@@ -86,7 +86,7 @@ abbrev pub NeverMeet : Program → Routine → (masks live groups : List ℕ) �
 NeverMeet program r masks live groups count =
     (index : ℕ) (i : Instruction) → At r index i → index < count → AreApartAt (uses_of program r.results masks i) live groups i index
 
--- Says that the home suits the slot, no matter what other slots have its register.
+-- Says that the home (a register, memory or both) suits the slot, no matter which other slots have the same register.
 pub record Suits (program : Program) (r : Routine) (slot : ℕ) (home : Home) : Type 0 where
   pub entry : (k : ℕ) → register_of home ≡ Some k → IsLiveAt program r slot 0 → slot < r.parameters
   pub following : (index function arguments count result : ℕ) → At r index (instructions.Call function arguments count result)
@@ -95,7 +95,7 @@ pub record Suits (program : Program) (r : Routine) (slot : ℕ) (home : Home) : 
       → IsLiveAt program r slot handler → is_kept home ≡ true
   pub barred : (index : ℕ) (i : Instruction) → At r index i → bars i slot ≡ true → register_of home ≡ None
 
--- Says that a slot with a register is a candidate, and `holders` lists it under that register.
+-- Says that a slot with a register is a candidate for registers, and that the set of this register in `holders` includes the slot.
 abbrev pub AreHolders : (masks holders : List ℕ) → List Home → Type 0
 AreHolders masks holders hs =
     (slot k : ℕ) → HasRegister hs slot k

@@ -11,7 +11,7 @@ use Rattle.cyc_types.specs.typing.Programs.{Program, parameter_locals, body_regi
 abbrev pub own_names : Named → List RegionName → List RegionName
 own_names x names = record { name = x.name; region = regions.Variable 0 } ∷ names
 
--- the scope `body_scope` of a function's body, computed from the declarations of the parameters
+-- the scope `body_scope` of a function's body, computed from the declarations of the function's parameters
 abbrev pub body_with : Program → Signature → Named → List RegionName → List Member → Scope
 body_with p s x names ms = record {
   structs = p.known.structs;

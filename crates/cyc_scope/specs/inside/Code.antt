@@ -1,4 +1,4 @@
--- The relation between the results of the type checker's functions and the results of the typing rules.
+-- The relation between the results of the type checker's functions and the results of the corresponding typing rules.
 use Rattle.std.specs.Prelude.{◌≡◌, Option, Some, None, Result, Ok, Err}
 use Rattle.cyc_words.specs.declared.fault.Fault.{Fault}
 use Rattle.cyc_words.specs.Fault.{memory_fault}
@@ -6,22 +6,24 @@ use Rattle.cyc_types.specs.Rules.{Checked}
 use Rattle.cyc_scope.specs.declared.stop.Stop.{Stop}
 use Rattle.cyc_scope.specs.declared.stop.Stop.TheVariants as stops
 
--- the fault that the checker returns when it stops: the rejection, or lack of memory
+-- the fault that the checker returns when it stops: the fault of the rejected text, or lack of memory
 abbrev pub fault_of : Stop → Fault
 fault_of stops.Memory = memory_fault
 fault_of (stops.Refused f) = f
 
--- Says that a rejection by the code is the fault that the typing rule reports. If memory runs out, the relation claims nothing.
+-- Says that a rejection by the checker's code is the fault that the typing rule reports. If memory runs out, nothing is said
+-- about the fault.
 abbrev pub Stops : {Y : Type 0} → Stop → Checked Y → Type 0
 Stops stops.Memory checked = Unit {0}
 Stops (stops.Refused f) checked = checked ≡ Err f
 
--- Says that the code's result, under the view `view`, is the result of the typing rule, unless memory ran out.
+-- Says that the result of the checker's code, seen as the mathematical value by `view`, is the typing rule's result, unless memory ran out.
 abbrev pub Gives : {X Y : Type 0} → (X → Y) → Result X Stop → Checked Y → Type 0
 Gives view (Ok x) checked = checked ≡ Ok (view x)
 Gives view (Err e) checked = Stops e checked
 
--- Says that the code continues if no fault is known, and otherwise stops with the known fault; the code never runs out of memory.
+-- Says that the code continues if no fault has been recorded, and otherwise stops with the recorded fault; the code never runs
+-- out of memory.
 abbrev pub Ends : Result (Unit {0}) Stop → Option Fault → Type 0
 Ends (Ok u) known = known ≡ None
 Ends (Err stops.Memory) known = ⊥

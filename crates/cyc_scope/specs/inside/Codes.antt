@@ -1,5 +1,5 @@
--- An encoding of types that lets a proof distinguish scopes. The encoding stores the base of a
--- type, which precedes the pointer signs (`*`, `@` or `?`), and the pointer signs.
+-- An encoding of types as numbers that lets a proof distinguish scopes. The encoding stores the base type, which precedes the pointer signs
+-- (`*`, `@` or `?`), and the pointer signs.
 use Rattle.std.specs.Prelude.{◌≡◌, ◌⊎◌, ℕ, zero, suc, List, [], ◌∷◌, refl}
 use Rattle.std.proofs.Common.{ap}
 use Rattle.std.specs.Coded.{Coded, code_by, coded_ℕ, coded_list, coded×, coded⊎}

@@ -1,4 +1,5 @@
--- The mathematical views of declared entities and of locals; the views omit the memory layout of types and signatures.
+-- The mathematical views of declared functions, globals and locals, for contracts; the views omit the memory layout of
+-- types and signatures.
 use Rattle.std.specs.Prelude.{◌≡◌, ℕ, nat_eq, if◌then◌else◌, List, [], ◌∷◌, map, reverse, get_or, Option, Some, None}
 use Rattle.std.specs.declared.vec.Vec.{Vec}
 use Rattle.std.specs.declared.alloc.Global.{Global}
@@ -49,7 +50,7 @@ view_local l = record { name = l.name; number = l.number; of_type = view_ty l.of
 abbrev pub view_binding : Binding → LocalVariable
 view_binding b = view_local b.local
 
--- lists the locals of the bindings, newest first; the bindings are oldest first
+-- lists the locals in the table's entries, newest first; the table's entries are oldest first
 abbrev pub locals_of : List Binding → List LocalVariable
 locals_of bs = map view_binding (reverse bs)
 
@@ -61,12 +62,12 @@ abbrev pub newest : List LocalVariable → ℕ → Option LocalVariable
 newest [] x = None
 newest (v ∷ vs) x = if nat_eq v.name x then Some v else newest vs x
 
--- says that the table contains the index of the newest local of each name, and that each binding stores the index it hides
+-- says that the table contains the index of the newest local of each name, and that each local stores the index of one it hides
 abbrev pub Finds : List (Option ℕ) → List Binding → Type 0
 Finds table bs = ((x : ℕ) → get_or table x None ≡ newest_place (local_names (locals_of bs)) x)
     × (map (λ (b : Binding). b.hidden) (reverse bs) ≡ hidden_by (local_names (locals_of bs)))
 
--- the meaning of a name found among the locals, or else the default meaning
+-- the meaning of a name as a local in scope, or else the given default meaning
 abbrev pub meaning_or : Meaning → Option Meaning → Meaning
 meaning_or m None = m
 meaning_or m (Some found) = found

@@ -1,17 +1,17 @@
--- A mark records the size of a scope at the entry of a construct. At the end of the construct, the names that came into scope
--- since its entry are removed.
+-- A mark records how many names a scope contains at the entry of a construct. At the end of the construct, the names that
+-- came into scope since its entry are removed.
 use Rattle.std.specs.Prelude.{ℕ, suc, ◌-◌, ◌<◌, ◌≤◌, List, [], ◌∷◌, length, drop}
 use Rattle.cyc_types.specs.declared.region.Region.TheVariants as regions
 use Rattle.cyc_types.specs.declared.scope.Kind.{Kind}
 use Rattle.cyc_types.specs.typing.Scopes.{LocalVariable, Scope, with_scope}
 use Rattle.cyc_scope.specs.declared.scope.Mark.{Mark}
 
--- says that the numbers of the locals' regions never increase from the newest local to the oldest, and that the newest has at most `region`
+-- says that the numbers of the locals' regions never increase from the newest local to the oldest, and are at most `region`
 abbrev pub Descends : ℕ → List LocalVariable → Type 0
 Descends region [] = Unit {0}
 Descends region (v ∷ vs) = (v.region ≤ region) × Descends v.region vs
 
--- says that regions are numbered from the outermost block to the innermost
+-- says that the regions of blocks are numbered from the outermost block to the innermost
 pub record IsInOrder (g : Scope) : Type 0 where
   pub locals : Descends g.region g.locals
   pub inside : g.region < g.next_region
@@ -26,8 +26,8 @@ mark_of g = record {
   counters = g.counters;
 }
 
--- The scope without the names added since its mark (a record of the scope's size) was taken. Numbers of locals and regions,
--- and names of regions, that were used stay used after the names leave the scope.
+-- The scope without the names added since its mark (a record of the scope's size) was taken. The numbers of locals and
+-- regions, and the region names, that were used for removed names are not used again.
 abbrev pub left_to : Mark → Scope → Scope
 left_to m g = record g {
   names = drop (length g.names - m.names) g.names;
@@ -38,6 +38,6 @@ left_to m g = record g {
   counters = m.counters;
 }
 
--- the scope after the next region, which already has a name, is declared and opened
+-- the scope after the region with the next number, which already has a name, is declared and opened
 abbrev pub with_next_opened : Kind → Scope → Scope
 with_next_opened k g = record g { next_region = suc g.next_region; regions = with_scope k (regions.Variable g.next_region) g.regions }

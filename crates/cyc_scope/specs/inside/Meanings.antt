@@ -1,4 +1,4 @@
--- The mathematical view of the meaning of a name; the view omits the memory layout of types and signatures.
+-- The mathematical view of the meaning of a name, for contracts; the view omits the memory layout of types and signatures.
 use Rattle.cyc_types.specs.TypeView.{view_ty}
 use Rattle.cyc_types.specs.inside.SignatureView.{view_signature}
 use Rattle.cyc_types.specs.TypedTreeView.{view_lvalue}

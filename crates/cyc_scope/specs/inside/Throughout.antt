@@ -1,4 +1,4 @@
--- The regions that are live in the whole body of a function; the checker needs no lookup for them.
+-- The regions that are live in the whole body of a function; the checker recognises them without a search in the list of live regions.
 use Rattle.std.specs.Prelude.{◌≡◌, ◌<◌, ℕ, suc, true, List}
 use Rattle.cyc_types.specs.declared.region.Region.{Region}
 use Rattle.cyc_types.specs.declared.region.Region.TheVariants.{Heap, Variable}

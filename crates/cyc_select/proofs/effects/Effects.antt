@@ -1,4 +1,4 @@
--- A safe ordinary instruction does not trap, and changes registers and memory as its definition says.
+-- An instruction that is no branch or jump and satisfies `IsSafe` does not trap, and changes registers and memory as its definition says.
 use Rattle.std.proofs.Common.{◌≡◌, ◌≢◌, ℕ, ◌+◌, ◌-◌, ◌%◌, ◌^◌, Bool, true, false, not, ◌&&◌, ◌||◌, List, [], ◌∷◌, drop, Option, None, Some, refl, sym, ap, subst, ◌∙◌, arith, inl, inr, ◌++◌}
 use Rattle.std.specs.Prelude.{◌==◌, if◌then◌else◌, slice_get, unwrap_or, is_none}
 use Rattle.std.proofs.lemmas.Bool.{cases_eq, eq-eqb, ne_eqb, or_from, and_left, and_right, not_from_true}
@@ -36,7 +36,8 @@ use Rattle.cyc_select.specs.inside.Machine as labelled
 use Rattle.cyc_select.proofs.relation.Cells.{IsCell, IsLive, cell, place_of-data, place_of-stack}
 use Rattle.cyc_select.proofs.effects.Views.{Contents, saved_in, View, Width, OneWord, OneByte, load_op, store_op, word_place, loaded_part, stored_word, answered_registers, does_r, does_w, IsSafe, IsWritable, moved, live_place, view_put, view_product, view_store, view_saved}
 
--- If the machine performs an instruction that causes no event, the machine is then in a running state, at the next line.
+-- If the machine performs an instruction that neither reads input, prints nor ends the run, the machine is then in a
+-- running state, at the next line.
 performs_to : (c : Configuration) (i : Instr) (left : machines.State) (next : State) → executes (machine_of c) i ≡ Does Ran left → left.phase ≡ phases.Running
     → Performs c i next → next ≡ Running (from_world (record { machine = left; output = c.output; input = c.input }) (c.line + 1))
 performs_to c i left next does running (event, s, acts, is) =
@@ -123,7 +124,7 @@ module _ (globals stack : ℕ) (c : Configuration) (r : Words) (w : Contents) (v
       let there = stands a (at_cell width base offset at) in
       store_performs c base offset width source next (aligned a (at_cell width base offset at)) there.0 there.1 there.2 goes
 
-  -- After a safe instruction the machine continues with the next line.
+  -- After an instruction that satisfies `IsSafe` (it does not trap), the machine continues with the next line.
   pub performed : (i : Instr) (next : State) → IsSafe globals stack i r → Performs c i next → next ≡ Running (moved c i)
   performed (Immediate op target source half) next safe goes = performs_to c (Immediate op target source half) (after (machine_of c) (Immediate op target source half)) next refl refl goes
   performed (LoadUpper target half) next safe goes = performs_to c (LoadUpper target half) (after (machine_of c) (LoadUpper target half)) next refl refl goes
@@ -150,7 +151,8 @@ module _ (globals stack : ℕ) (c : Configuration) (r : Words) (w : Contents) (v
   performed (JumpRegisterLink destination source) next safe goes = absurd safe
   performed (Exception op code) next safe goes = absurd safe
 
-  -- After a safe instruction, the configuration has the registers and the memory that the instruction's definition computes.
+  -- After an instruction that satisfies `IsSafe` (it does not trap), the configuration has the registers and the memory that
+  -- the instruction's definition computes.
   pub moved_view : (i : Instr) → IsSafe globals stack i r → View globals stack (moved c i) (does_r i r w) (does_w i r w)
   moved_view (Immediate op target source half) safe =
       view_put globals stack c r w view target.number (immediate_result op (word_in c source.number) half) (immediate_result op (r source.number) half) (c.line + 1) target.in_range safe
@@ -269,7 +271,8 @@ called c code service asks =
     let fine : cause_of (machine_of c) (Exception Syscall code) ≡ None = ap (λ (o : Option Service). if is_none o then Some causes.BadService else None) asks in
     executes-performs (machine_of c) (Exception Syscall code) fine ∙ ap (λ (o : Option Service). calls o (machine_of c)) asks
 
--- `Served` says that performing the requested system call in a configuration causes an event and leads to the state `next`.
+-- `Served` says that performing the requested system call in a configuration causes an event (input, output or end of the
+-- run) and leads to the state `next`.
 abbrev Served : Configuration → Service → State → Type 0
 Served c service next =
     (event : Event) × (s : machines.State) × Serves service (machine_of c) event s

@@ -34,12 +34,13 @@ use Rattle.cyc_select.proofs.effects.Effects.{performed, moved_view, loads_live,
 use Rattle.cyc_select.proofs.effects.Sequences.{Rises, comes_map, Stands, after_r, after_w, AreSafe, part_word, does_words_r, does_words_w, safe_ordinary}
 
 module _ (code : Labelled) (formed : IsFormed code) (addresses : ℕ → ℕ) (globals stack : ℕ) where
-  -- `Quiet` says that the state is running with this output and input, or that the effect of the source step is already visible (`Late`).
+  -- `Quiet` says that the state is running with this output and input, or that the effect of the plain program's step is already visible
+  -- (`Late`).
   abbrev pub Quiet : (out rest : List ℕ) → (Late : State → Type 0) → State → Type 0
   Quiet out rest Late t = ((status_of t ≡ simulation.Running) × (output_of t ≡ out) × (input_of t ≡ rest)) ⊎ Late t
 
   -- `Walk` says that each run from `t` visits at least `least` lines, in ascending order between `lo` and `hi`, and reaches the goal. No
-  -- input is read before the state satisfies `Late`: the effect of the source step is visible.
+  -- input is read before the state satisfies `Late`: the effect of the plain program's step is visible.
   pub record Walk (least lo hi : ℕ) (out : List ℕ) (Late Goal : State → Type 0) (t : State) : Type 0 where
     pub places : List ℕ
     pub enough : least ≤ length places
@@ -132,7 +133,7 @@ module _ (code : Labelled) (formed : IsFormed code) (addresses : ℕ → ℕ) (g
       → Now (k + 1) out input (does_r i r w) (does_w i r w) (moved c i)
   moved_now k out input r w c i now fits view = record { view = view; r_words = does_words_r i r w fits now.r_words now.w_words; w_words = does_words_w i r w now.r_words now.w_words; at_line = ap (λ (n : ℕ). n + 1) now.at_line; output = now.output; input = now.input }
 
-  -- A safe instruction followed by a walk (stretch of a run) is a walk.
+  -- An instruction that does not trap, followed by a walk (stretch of a run), is a walk.
   pub walk_one : {Late : State → Type 0} (i : Instr) (n k lo hi : ℕ) (out input : List ℕ) (Goal : State → Type 0) (r : Words) (w : Contents) (c : Configuration)
       → Now k out input r w c → slice_get code.lines k ≡ Some (lines.Ordinary i) → IsSafe globals stack i r → lo ≤ k
       → (Now (k + 1) out input (does_r i r w) (does_w i r w) (moved c i) → Walk n (k + 1) hi out Late Goal (Running (moved c i)))
@@ -144,8 +145,8 @@ module _ (code : Labelled) (formed : IsFormed code) (addresses : ℕ → ℕ) (g
       (walk_from n (suc c.line) (k + 1) hi out Goal (Running (moved c i)) (omega (arith, now.at_line))
       (goes (moved_now k out input r w c i now fits (moved_view globals stack c r w now.view i safe))))
 
-  -- A sequence of safe instructions followed by a walk (stretch of a run) is a walk. The relation `View` for the
-  -- final state of a walk (it has these registers and this memory) does not depend on the next line.
+  -- A sequence of instructions that do not trap, followed by a walk (stretch of a run), is a walk. The relation `View` for the final state
+  -- of a walk (it has these registers and this memory) does not depend on the next line.
   pub walk_block : {Late : State → Type 0} (is : List Instr) (n k lo hi : ℕ) (out input : List ℕ) (Goal : State → Type 0) (r : Words) (w : Contents) (c : Configuration)
       → Now k out input r w c → Stands code k (ordinary is) → AreSafe globals stack is r w → lo ≤ k
       → ((d : Configuration) → Now (k + length is) out input (after_r is r w) (after_w is r w) d → Walk n (k + length is) hi out Late Goal (Running d))
@@ -276,7 +277,8 @@ module _ (code : Labelled) (formed : IsFormed code) (addresses : ℕ → ℕ) (g
       → Step code addresses (Running c) next → Performs c syscall next
   syscall_now k out input r w c next now stands step = performs_now k out input r w c syscall next now stands refl step
 
-  -- After the `syscall` that reads a byte, the walk (stretch of a run) is late: the effect of the source step is visible.
+  -- After the `syscall` that reads a byte, the walk (stretch of a run) is late: the effect of the plain program's step,
+  -- the read, is visible.
   pub walk_get : {Late : State → Type 0} (n k lo hi : ℕ) (out input : List ℕ) (Goal : State → Type 0) (r : Words) (w : Contents) (c : Configuration)
       → Now k out input r w c → slice_get code.lines k ≡ Some (lines.Ordinary syscall) → lo ≤ k → r 2 ≡ 1 → IsWord (byte_of input)
       → ((t : State) → status_of t ≡ simulation.Running → output_of t ≡ out → input_of t ≡ drop 1 input → Late t)
@@ -371,7 +373,7 @@ module _ (code : Labelled) (formed : IsFormed code) (addresses : ℕ → ℕ) (g
   lines_rise [] lo k hi from below = omega (arith, from, below)
   lines_rise (i ∷ is) lo k hi from below = (from, lines_rise is (suc k) (k + 1) hi (omega arith) (omega (arith, below)))
 
-  -- A sequence of safe instructions ends a stretch of a run if the state after the sequence satisfies the goal.
+  -- A sequence of instructions that do not trap ends a stretch of a run if the state after the sequence satisfies the stretch's goal.
   pub comes_block : (Late : State → Type 0) (is : List Instr) (k : ℕ) (out input : List ℕ) (Goal : State → Type 0) (r : Words) (w : Contents) (c : Configuration)
       → Now k out input r w c → Stands code k (ordinary is) → AreSafe globals stack is r w
       → ((d : Configuration) → Now (k + length is) out input (after_r is r w) (after_w is r w) d → Goal (Running d))

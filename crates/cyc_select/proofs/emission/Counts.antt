@@ -41,7 +41,7 @@ use Rattle.cyc_isa.specs.declared.instr.MemoryOp.{MemoryOp}
 
 -- ---- upper bounds
 
--- Loading a constant word takes at most two lines: one line if any of three tests on the word holds, otherwise two.
+-- Loading a constant word takes at most two MIPS lines: one if one of three tests shows that one instruction suffices, otherwise two.
 word_either : (a b c : Bool) → (if a then 1 else (if b then 1 else (if c then 1 else 2))) ≤ 2
 word_either true b c = omega arith
 word_either false true c = omega arith
@@ -202,7 +202,8 @@ pub argument_small : (o : Option Operand) → argument_count o ≤ operand_size 
 argument_small None = omega arith
 argument_small (Some operand) = omega (arith, load_small operand)
 
--- The lines that update the number of open regions, with those that load the first operand, do not exceed the size reserved for a request.
+-- The lines that load a store request's first operand and update the number of open regions do not exceed the size reserved for such a
+-- request.
 pub regions_small : (request : Request) → argument_count (first_operand request) + regions_count request ≤ operand_size (first_operand request) + answer_count request
 regions_small (requests.OpenLexical destination) = omega arith
 regions_small (requests.CloseTo mark) = omega (arith, load_small mark)
@@ -366,7 +367,7 @@ length_brought true f source slot = go (is_kept f slot) refl
     go true kept = refl
     go false unkept = given (value_register f slot) refl unkept
 
--- If registers are reloaded afterwards, writing each result word to its slot takes one MIPS line.
+-- If registers are reloaded after a call, writing each result word to its slot takes one MIPS line.
 pub length_results : (f : Frame) (slot : ℕ) (sources : List ℕ) → length (bring_all true f slot sources) ≡ length sources
 length_results f slot [] = refl
 length_results f slot (source ∷ sources) =

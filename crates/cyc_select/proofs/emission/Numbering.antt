@@ -49,8 +49,8 @@ way_small frame = go frame.saves
     go true = omega arith
     go false = omega arith
 
--- Returns the number of words that a function's entry takes to save the return address: 1 if the
--- code overwrites the return address register, otherwise 0.
+-- Returns the number of machine words with which a function's entry saves the return address: 1 if
+-- the code overwrites the return address register, otherwise 0.
 abbrev pub losing : List Instruction → ℕ
 losing code = if loses_any code then 1 else 0
 
@@ -61,7 +61,8 @@ losing_next i code = go (loses i)
     go true = omega arith
     go false = omega arith
 
--- Returns the number of words reserved in the size of a function's code to save registers and to load parameters into them.
+-- Returns the number of machine words that the size of a function's code reserves for lines that save registers and load
+-- parameters into them.
 abbrev pub returning : List Instruction → ℕ
 returning code = if returns_any code then 14 else 0
 

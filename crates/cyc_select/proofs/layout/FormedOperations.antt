@@ -194,7 +194,7 @@ module _ (line_count : ℕ) where
 
     -- ---- operands, plans and tests
 
-    -- `IsThere` says that an operand is an existing slot or a constant that fits a machine word.
+    -- `IsThere` says that an operand is a slot of the function or a constant that fits a machine word.
     abbrev pub IsThere : Operand → Type 0
     IsThere o = IsOperand routine o × IsOfWord o
 
@@ -218,7 +218,8 @@ module _ (line_count : ℕ) where
     operands_formed left right l r =
         formed_append (operand_code frame FIRST left) (operand_code frame SECOND right) (operand_formed FIRST left l) (operand_formed SECOND right r)
 
-    -- `IsPlanThere` says that the operands of a plan (how MIPS performs an operation) exist and its immediate fits 16 bits.
+    -- `IsPlanThere` says that each operand of a plan (how MIPS performs an operation) is a slot of the function or a
+    -- constant. The plan's immediate must fit 16 bits.
     abbrev IsPlanThere : Plan → Type 0
     IsPlanThere plan = IsThere plan.left × IsThere plan.right × HalfFits plan.operation
 

@@ -1,4 +1,4 @@
--- Each code position of a program has its line within the emitted code.
+-- For each instruction of the plain program, the line number counted for it is the number of a line of the emitted code.
 use Rattle.std.proofs.Common.{◌≡◌, ℕ, zero, suc, ◌+◌, ◌-◌, ◌<◌, ◌≤◌, Bool, true, false, List, [], ◌∷◌, ◌++◌, length, Some, slice_get, refl, sym, subst, arith, inl, inr}
 use Rattle.std.specs.Prelude.{if◌then◌else◌}
 use Rattle.std.proofs.lemmas.Bool.{cases_Bool, cases_lt}
@@ -122,7 +122,8 @@ module _ (program : Program) (well : IsWellFormed program) (frames : List Frame)
           omega (arith, further, below)
       go j there is = absurd (let e : false ≡ true = is in cc)
 
-  -- The MIPS line counted for each code position exists in the code: it belongs to this position or to a later one.
+  -- The line number counted for each instruction is that of an existing MIPS line: this line was emitted for this
+  -- instruction or for a later one.
   pub place_inside : (function index : ℕ) → index < length (routine_at program function).code → instruction_line program frames function index < length code.lines
   place_inside function index below = go (length (routine_at program function).code - suc index) index (omega (arith, below))
     where

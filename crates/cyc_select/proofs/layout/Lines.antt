@@ -34,6 +34,7 @@ line_next program frames function index i at =
       ap (λ (n : ℕ). count_of program frames function n i) here,
     )
 
--- The MIPS lines of a function's first instruction begin after the function's saves, or at its first line if it saves nothing.
+-- The MIPS lines of a function's first instruction begin after the lines that save registers, or at the function's first line
+-- if it saves nothing.
 pub line_first : (program : Program) (frames : List Frame) (function : ℕ) → instruction_line program frames function 0 ≡ function_line program frames function + saving_count (frame_at frames function)
 line_first program frames function = omega arith

@@ -1,4 +1,4 @@
--- Assigns to each code position of the plain program the lines of the emitted code that belong to it.
+-- Assigns to each instruction of the plain program the emitted MIPS lines that implement it.
 use Rattle.std.proofs.Common.{◌≡◌, ℕ, zero, suc, ◌+◌, ◌-◌, ◌≤◌, List, Option, Some, None, slice_get, refl, ap, arith}
 use Rattle.std.specs.List.{range_with_len}
 use Rattle.cyc_plain.specs.declared.instruction.Instruction.{Instruction}
@@ -9,7 +9,7 @@ use Rattle.cyc_select.specs.inside.Slots.{saving_count}
 use Rattle.cyc_select.specs.inside.Counts.{after_count, place_count, instruction_line}
 use Rattle.cyc_select.proofs.layout.Lines.{line_next, line_first}
 
--- Returns the number of MIPS lines that follow a call, which belong to the next code position.
+-- Returns the number of MIPS lines that are executed after a call returns; these lines count as lines of the next instruction.
 abbrev pub after_of : Program → List Frame → (function : ℕ) → Option Instruction → ℕ
 after_of program frames function (Some i) = after_count program frames function i
 after_of program frames function None = 0
@@ -29,7 +29,8 @@ own_of program frames place =
     (instruction_line program frames place.function place.index - previous_count program frames place.function code place.index)
     (previous_count program frames place.function code place.index + body_of program frames place.function place.index (slice_get code place.index))
 
--- If lines that belong to a code position stand before the line counted for this position, these lines exist in the emitted code.
+-- If MIPS lines that count as lines of an instruction stand before the line number computed for this instruction, these lines
+-- exist in the emitted code.
 pub previous_fits : (program : Program) (frames : List Frame) (function index : ℕ) → previous_count program frames function (routine_at program function).code index ≤ instruction_line program frames function index
 previous_fits program frames function zero = omega (arith, line_first program frames function)
 previous_fits program frames function (suc index) = go (slice_get (routine_at program function).code index) refl

@@ -1,4 +1,4 @@
--- Each MIPS line of the emitted code belongs to the start code or to exactly one position of the plain program.
+-- Each emitted MIPS line is a line of the start code, or is assigned to exactly one instruction of the plain program.
 use Rattle.std.proofs.Common.{◌≡◌, ℕ, zero, suc, ◌+◌, ◌-◌, ◌<◌, ◌≤◌, true, false, List, [], ◌∷◌, ◌++◌, length, map, take, Option, Some, slice_get, refl, sym, ap, subst, ◌∙◌, arith, length-append}
 use Rattle.std.specs.Prelude.{slice_index_or, flat_map, IsSomeAnd}
 use Rattle.std.specs.List.{range_with_len}
@@ -65,7 +65,7 @@ abbrev pub place_in : ℕ → ℕ → CodePlace
 place_in function index = record { function = function; index = index }
 
 module _ (program : Program) (well : IsWellFormed program) (frames : List Frame) where
-  -- Returns the number of the line after the last line of a function.
+  -- Returns the number of the line that follows the last MIPS line of a function.
   abbrev end_of : ℕ → ℕ
   end_of function = function_line program frames function + function_count program frames function (routine_at program function)
 
@@ -117,7 +117,7 @@ module _ (program : Program) (well : IsWellFormed program) (frames : List Frame)
           let previous : previous_count program frames function (routine_at program function).code (k + 1) ≡ after_count program frames function i = ap (previous_count program frames function (routine_at program function).code) one ∙ ap (after_of program frames function) at in
           omega (arith, next, previous, first_before function known (k + 1) n (omega (arith, long)))
 
-  -- The MIPS lines of a function are those that belong to the positions of its plain code.
+  -- The MIPS lines of a function are those assigned to the instructions of its plain code.
   pub own_function : (function : ℕ) → function < length program.functions
       → flat_map (own_of program frames) (map (place_in function) (range_with_len 0 (length (routine_at program function).code))) ≡ range_with_len (function_line program frames function) (function_count program frames function (routine_at program function))
   own_function function known =

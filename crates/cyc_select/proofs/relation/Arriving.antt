@@ -1,4 +1,5 @@
--- Arguments arrive where callers put them. An argument that arrives in memory but belongs in a register is loaded at the function's entry.
+-- Arguments arrive in the registers or memory words where callers put them. An argument that arrives in memory, but whose slot has a
+-- register, is loaded at the function's entry.
 use Rattle.std.proofs.Common.{◌≡◌, ℕ, zero, suc, ◌+◌, ◌<◌, ◌≤◌, Bool, true, false, List, [], ◌∷◌, ◌++◌, length, map, take, drop, Some, None, refl, sym, ap, ◌∙◌, arith, inl, inr}
 use Rattle.std.specs.Prelude.{◌⊎◌, if◌then◌else◌, sum_by}
 use Rattle.std.proofs.lemmas.Bool.{cases_lt, leb-true, leb-false, lt-leb, le-leb, cond-true, cond-false}
@@ -177,8 +178,8 @@ arrived_at frame slot k both = elim (cases_lt slot frame.parameters) [
 
 -- ---- the lines that load parameters
 
--- `Arrived` says that after the loads of parameters, each live slot with a register has its word
--- there, and that no other register is written.
+-- `Arrived` says that after the loads of parameters, each live slot with a register has its word there, and that no other register is
+-- written.
 pub record Arrived (globals stack : ℕ) (program : Program) (frames : List Frame) (function index : ℕ) (q : Words) (w : Contents) (slots : Words) : Type 0 where
   pub safe : AreSafe globals stack (arrivals (frame_at frames function)) q w
   pub memory : after_w (arrivals (frame_at frames function)) q w ≡ w

@@ -1,4 +1,4 @@
--- Each operand of an instruction is a constant, or its word is in memory or in the register of its slot.
+-- Each operand of an instruction is a constant, or a slot whose word is in memory or in the slot's register.
 use Rattle.std.proofs.Common.{◌≡◌, ℕ, ◌*◌, ◌<◌, ◌≤◌, true, List, Option, Some, None, refl, subst}
 use Rattle.cyc_plain.specs.inside.Uses.{is_slot, reads}
 use Rattle.cyc_machine_model.specs.State.{globals_length, words_per_call}

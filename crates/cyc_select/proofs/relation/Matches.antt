@@ -168,8 +168,8 @@ module _ (program : Program) (well : IsWellFormed program) (frames : List Frame)
   weight (states.Ended ending out input) = 0
   weight (states.Stuck out input) = 0
 
-  -- `Passed` says that the plain machine steps to the next instruction and its new state already
-  -- matches `t`, so the labelled machine need not step.
+  -- `Passed` says that the plain machine steps to the next instruction and its new state already matches `t`, so the labelled machine need
+  -- not step.
   abbrev pub Passed : Configuration → State → Type 0
   Passed c t =
       (next : states.State) × Step program pages calls (states.Running c) next × Matches next t × (weight next < weight (states.Running c))
@@ -177,8 +177,8 @@ module _ (program : Program) (well : IsWellFormed program) (frames : List Frame)
   pub within : (d : Configuration) → demand d.store ≤ pages → suc (length d.frames) ≤ calls → is_within pages calls (states.Running d) ≡ true
   within d paged deep = and_from _ _ (le-leb (demand d.store) pages paged) (le-leb (suc (length d.frames)) calls deep)
 
-  -- If a choice of an instruction's unspecified results is allowed, and the effect stays within the limits, the
-  -- plain machine performs this step.
+  -- The plain machine performs a step if the choice of unspecified results is allowed, and the effect stays
+  -- within the limits on store pages and nested calls.
   pub steps_to : (c : Configuration) (choice : Choice) (i : Instruction) (next : states.State) → IsAllowed program (states.Running c) choice
       → instruction_at program (states.place_of (states.Running c)) ≡ Some i → performed program choice c i ≡ next → is_within pages (limit_of (Some i) calls) next ≡ true → Step program pages calls (states.Running c) next
   steps_to c choice i next allowed at does keeps =
@@ -235,8 +235,8 @@ module _ (program : Program) (well : IsWellFormed program) (frames : List Frame)
           caches = made_caches program frames c.active.function (fit.homes c.active.function s.known) c.active.next destination word r r' c.active.slots i at unwritten gets led result others caches;
         }))
 
-    -- A step that stays in the function's code and may print leads to a state in which the next
-    -- instruction's first line comes next (`Ready`).
+    -- A step that stays in the function's code and may print leads to a state in which the next instruction's first line comes next
+    -- (`Ready`).
     pub ready_by : (d : Configuration) (line : ℕ) (run : labelled.Configuration) (r' : Words) (w' : Contents)
         → d.active.function ≡ c.active.function → d.active.base ≡ c.active.base → d.active.handlers ≡ c.active.handlers → d.active.slots ≡ c.active.slots → d.frames ≡ c.frames → d.globals ≡ c.globals → d.store ≡ c.store → d.input ≡ c.input
         → line ≡ instruction_line program frames d.active.function d.active.next

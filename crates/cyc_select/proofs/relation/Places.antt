@@ -178,8 +178,8 @@ module _ (program : Program) (a word : ℕ) where
       (λ n others. beyond_waiting frames addresses base function waiting n others) newest handlers records
 
 module _ (program : Program) (well : IsWellFormed program) (frames : List Frame) (fit : AreFrames program frames) (addresses : ℕ → ℕ) where
-  -- `IsAbove` says that `word` is the word of a waiting call's slot at the address `a`, and that
-  -- the chain of calls stays correct when it is written.
+  -- `IsAbove` says that `word` is the word of a waiting call's slot at the address `a`. A write of this word must preserve the relation
+  -- `Chain` on the waiting calls.
   record IsAbove (w : Contents) (base back : ℕ) (left : Words) (function : ℕ) (waiting : List states.Frame) (a word : ℕ) : Type 0 where
     low : base + frame_size ≤ a
     high : a < stack_end

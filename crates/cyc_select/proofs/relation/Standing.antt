@@ -140,8 +140,8 @@ module _ (program : Program) (well : IsWellFormed program) (frames : List Frame)
 
     -- ---- changes that keep the relation
 
-    -- `Standing` is kept if registers change that hold neither the current or the lowest frame's
-    -- address, nor the return address, nor an unsaved callee-saved word.
+    -- `Standing` is kept if registers change that hold neither the current or the lowest frame's address, nor the return address, nor an
+    -- unsaved callee-saved word.
     pub standing_registers : (r' : Words) → r' 0 ≡ r 0 → r' FRAME ≡ r FRAME → r' LOWEST ≡ r LOWEST → (in_frame_at stage ≡ false → r' RETURN_ADDRESS ≡ r RETURN_ADDRESS) → lasting r' ≡ lasting r
         → ((j : ℕ) → saved_at stage (frame_at frames c.active.function) ≤ j → j < 7 → preserved_of r' j ≡ preserved_of r j) → Standing program frames addresses pages calls c r' w base back stage slots
     standing_registers r' zero_same base_same lowest_same back_same lasts_same preserved_same = record {
@@ -197,8 +197,8 @@ module _ (program : Program) (well : IsWellFormed program) (frames : List Frame)
       middle = s.middle;
     }
 
-    -- `Standing` (registers and memory represent the calls) is kept if the active call's handlers
-    -- change, and registers that this relation does not mention.
+    -- `Standing` (registers and memory represent the calls) is kept if the active call's handlers change, and registers that this relation
+    -- does not mention.
     pub standing_handlers : (handlers : List states.Handler) (r' : Words) → r' 0 ≡ r 0 → r' FRAME ≡ r FRAME → r' LOWEST ≡ r LOWEST → r' RETURN_ADDRESS ≡ r RETURN_ADDRESS → r' REGIONS ≡ r REGIONS → r' GLOBALS ≡ r GLOBALS
         → ((j : ℕ) → saved_at stage (frame_at frames c.active.function) ≤ j → j < 7 → preserved_of r' j ≡ preserved_of r j)
         → IsNewest program frames addresses (r' HANDLERS) base c.active.function handlers c.frames

@@ -257,7 +257,7 @@ served_words pages store (Allocate handle words) choice allowed laid =
     omega (arith, high, laid.has, laid.few)
 served_words pages store (Free address) choice allowed laid = tt
 
--- If the store (the heap of regions) has a word at an address, this word belongs to a live block in the store's pages.
+-- If the store (the heap of regions) has a word at an address, this word is in a live block in the store's pages.
 pub laid_live : (pages : ℕ) (store : StoreState) (a word : ℕ) → IsLaid pages store → word_at store a ≡ Some word → IsLive store a word × IsWord word
 laid_live pages store a word laid found = go (a % 4 == 0) refl (holder (homes store) a) refl found
   where

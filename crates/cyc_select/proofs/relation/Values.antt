@@ -90,7 +90,7 @@ module _ (program : Program) (frames : List Frame) (function : ℕ) (right : Are
       → IsLiveAt program (routine_at program function) slot next → IsLiveAt program (routine_at program function) slot index
   live_earlier index next slot i at led unwritten (steps, wanted) = (suc steps, (i, at, unwritten, next, led, wanted))
 
-  -- If an instruction changes no slot that has a register, registers still hold the words of their live slots after it.
+  -- If an instruction changes no slot that has a register, registers hold the words of their live slots after it as before.
   pub caches_past : (index next : ℕ) (r r' slots slots' : Words) (i : Instruction) → IsAt index i → leads i index next ≡ true
       → ((slot k : ℕ) → value_register (frame_at frames function) slot ≡ Some k → writes program i slot ≡ false)
       → ((slot k : ℕ) → value_register (frame_at frames function) slot ≡ Some k → slots' slot ≡ slots slot)
@@ -99,7 +99,7 @@ module _ (program : Program) (frames : List Frame) (function : ℕ) (right : Are
       values k (right.low slot k has) (right.high slot k has)
       ∙ (caches slot k has (live_earlier index next slot i at led (unwritten slot k has) wanted) ∙ sym (same slot k has))
 
-  -- If an instruction writes a slot and its register, registers still hold the words of their live slots after it.
+  -- If an instruction writes a slot and the slot's register, registers hold the words of their live slots after it as before.
   pub made_caches : (index destination word : ℕ) (r r' slots : Words) (i : Instruction) → IsAt index i
       → ((slot : ℕ) → slot ≢ destination → writes program i slot ≡ false) → writes program i destination ≡ true → leads i index (index + 1) ≡ true
       → ((k : ℕ) → value_register (frame_at frames function) destination ≡ Some k → r' k ≡ word)
@@ -113,7 +113,7 @@ module _ (program : Program) (frames : List Frame) (function : ℕ) (right : Are
         ∙ (caches slot k has (live_earlier index (index + 1) slot i at led (unwritten slot other) wanted) ∙ sym (put-other slots destination slot word other))
   ]
 
-  -- If a move copies several words one by one, registers still hold the words of their live slots after it.
+  -- If a move copies several words one by one, registers hold the words of their live slots after the move as before.
   pub moved_caches : (index destination source count : ℕ) (r r' slots : Words) → IsAt index (plain.MoveWords destination source count)
       → ((i k : ℕ) → i < count → value_register (frame_at frames function) (destination + i) ≡ Some k
       → ((j : ℕ) → j < count → value_register (frame_at frames function) (destination + j) ≡ Some k → i ≡ j) → r' k ≡ slots (source + i))
@@ -145,7 +145,7 @@ module _ (program : Program) (frames : List Frame) (function : ℕ) (right : Are
             | inr above ↦ copied-above slots slots source count destination slot above
           ]))
 
-  -- If a slot has a register, no instruction of its function forbids that this slot has one.
+  -- If a slot has a register, no instruction of the function forbids that this slot is kept in a register.
   pub unbarred : (index slot k : ℕ) (i : Instruction) → IsAt index i → value_register (frame_at frames function) slot ≡ Some k → bars i slot ≡ false
   unbarred index slot k i at has = go (bars i slot) refl
     where

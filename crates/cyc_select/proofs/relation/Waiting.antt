@@ -99,7 +99,8 @@ slots_fit r frame is = go r.slots is.inside
     go (suc n) inside = omega (arith, inside n (omega arith), is.small)
 
 module _ (program : Program) (frames : List Frame) (fit : AreFrames program frames) (addresses : ℕ → ℕ) where
-  -- The chain of waiting calls is kept if the memory from its first frame on and each word left in a callee-saved register are unchanged.
+  -- The relation `Chain` on the waiting calls still holds if their frames in memory and each word left in a callee-saved register are
+  -- unchanged.
   pub chain_kept : (w w' : Contents) (base back : ℕ) (left left' : Words) (function : ℕ) (waiting : List states.Frame) → ((a : ℕ) → base + frame_size ≤ a → w'.words a ≡ w.words a)
       → ((j : ℕ) → j < 7 → left' j ≡ left j) → Chain program frames addresses w base back left function waiting → Chain program frames addresses w' base back left' function waiting
   chain_kept w w' base back left left' function [] same alike chain = chain

@@ -1,4 +1,4 @@
--- The labelled machine matches each step of the plain machine by executing the lines of the current instruction.
+-- The labelled machine simulates each step of the plain machine by executing the MIPS lines of the current instruction.
 use Rattle.std.proofs.Common.{◌≡◌, ◌≢◌, ℕ, suc, ◌+◌, ◌-◌, ◌*◌, ◌^◌, ◌<◌, ◌≤◌, Bool, true, false, not, List, [], ◌∷◌, ◌++◌, length, Option, Some, None, slice_get, refl, sym, ap, subst, ◌∙◌, arith, inl, inr}
 use Rattle.std.specs.Prelude.{if◌then◌else◌}
 use Rattle.std.proofs.lemmas.Bool.{cases_lt, eq-eqb, ne_eqb, false≢true}
@@ -94,7 +94,7 @@ module _ (program : Program) (well : IsWellFormed program) (words : HasWords pro
       subst (λ (n : ℕ). Stands code (instruction_line program frames function index + n) (following program frames function (plain.Call callee arguments count result))) (long function line i)
       (stands_back code line (body program frames function line i) (following program frames function i) (stand function index i at))
 
-  -- The MIPS line after a call exists: it belongs to the call's following lines or to the next instruction.
+  -- The MIPS line after a call exists: it is one of the lines executed after this call returns, or a line of the next instruction.
   after_inside : (function index callee arguments count result : ℕ) → instruction_at program (record { function = function; index = index }) ≡ Some (plain.Call callee arguments count result)
       → after_line program frames function index callee arguments count result < length code.lines
   after_inside function index callee arguments count result at =
@@ -211,7 +211,7 @@ module _ (program : Program) (well : IsWellFormed program) (words : HasWords pro
     abbrev StandsHere : Instruction → Type 0
     StandsHere i = Stands code here (body program frames c.active.function here i)
 
-    -- The labelled machine matches a division whose result is defined.
+    -- The labelled machine (MIPS lines) simulates a division whose result is defined.
     quotient_goes : (operator : BinaryOperator) (which : MoveFromOp) (destination : ℕ) (left right : Operand) → IsAt (plain.Binary operator destination left right) → destination < slots → IsThere left → IsThere right
         → ((b : ℕ) → b ≡ 0 → has_no_result operator b ≡ true) → ((b : ℕ) → b ≢ 0 → has_no_result operator b ≡ false)
         → ((a b : ℕ) → binary_result operator a b ≡ multiply_divide_result Divide which a b) → ((a : ℕ) → IsWord a → multiply_divide_result Multiply which (if_low which a 0) (if_low which (2 ^ 32 - 1) 0) ≡ multiply_divide_result Divide which a (2 ^ 32 - 1))
@@ -284,7 +284,7 @@ module _ (program : Program) (well : IsWellFormed program) (words : HasWords pro
     finish_goes value at in_range stands (h ∷ handlers) some =
         absurd (stops_not (plain.Finish value) at (zeros_at program c (plain.Finish value) at refl) (ap (finishes c value (routine_at program c.active.function).results) some))
 
-    -- The labelled machine matches a branch by a walk (stretch of a run) through all lines of the branch.
+    -- The labelled machine (MIPS lines) simulates a branch by a walk (stretch of a run) through all lines of the branch.
     branch_walks : (comparison : Comparison) (left right : Operand) (target : ℕ) → IsAt (plain.Branch comparison left right target) → is_idle (frame_at frames c.active.function) c.active.next (plain.Branch comparison left right target) ≡ false
         → IsInRange program (routine_at program c.active.function) (plain.Branch comparison left right target) → HasWord (plain.Branch comparison left right target) → StandsHere (plain.Branch comparison left right target)
         → Walk code formed addresses globals_length (words_per_call * calls) (body_count program frames c.active.function (plain.Branch comparison left right target)) here (here + body_count program frames c.active.function (plain.Branch comparison left right target)) c.output (After program pages calls c) (Reached program well frames fit code formed addresses pages calls few c) (Running run)
@@ -385,7 +385,7 @@ module _ (program : Program) (well : IsWellFormed program) (words : HasWords pro
   made true c places u enough (next, goes, matches, lighter) = record { next = next; step = goes; matches = matches; lighter = λ none. lighter }
   made false c places u enough (next, goes, matches) = record { next = next; step = goes; matches = matches; lighter = λ none. absurd (omega (arith, none, enough)) }
 
-  -- In each state of a walk (stretch of a run), the effect of the source step is visible, or output and input are still unchanged.
+  -- In each state of a walk (stretch of a run), the effect of the plain program's step is visible, or output and input are still unchanged.
   on_the_way : (c : Configuration) (run : labelled.Configuration) (u : State) → run.input ≡ c.input → Quiet code formed addresses globals_length (words_per_call * calls) c.output run.input (After program pages calls c) u
       → IsOnTheWay above below_machine (states.Running c) u
   on_the_way c run u unread (inl (running, output, left)) =
@@ -393,7 +393,7 @@ module _ (program : Program) (well : IsWellFormed program) (words : HasWords pro
   on_the_way c run u unread (inr (running, next, made, seen)) =
       way_after above below_machine matching (states.Running c) next u made ((lawful program pages calls).grows (states.Running c) next made) running seen
 
-  -- A walk (stretch of a run) through an instruction's own lines matches a step of the plain machine.
+  -- A walk (stretch of a run) through an instruction's own MIPS lines simulates a step of the plain machine.
   stepped : (idle : Bool) (c : Configuration) (t : State) (run : labelled.Configuration) (lo : ℕ) (i : Instruction) → run.input ≡ c.input → instruction_at program (states.place_of (states.Running c)) ≡ Some i
       → instruction_line program frames c.active.function c.active.next - previous_count program frames c.active.function (routine_at program c.active.function).code c.active.next ≤ lo → t ≡ Running run
       → Walk code formed addresses globals_length (words_per_call * calls) (least_of idle) lo (end_of c i) c.output (After program pages calls c) (Comes_to idle c) (Running run)
@@ -420,7 +420,8 @@ module _ (program : Program) (well : IsWellFormed program) (words : HasWords pro
             walk.comes;
       })
 
-  -- The labelled machine matches a step from the first line of its instruction, or from the next line if the instruction has no line.
+  -- The labelled machine (MIPS lines) simulates a step from the first line of the current plain instruction, or from the next line if
+  -- the instruction has no line.
   ready_goes : (idle : Bool) (c : Configuration) (t : State) → Never c → (ready : Ready program well frames fit code formed addresses pages calls few c t) (i : Instruction) → instruction_at program (states.place_of (states.Running c)) ≡ Some i
       → is_idle (frame_at frames c.active.function) c.active.next i ≡ idle
       → Walk code formed addresses globals_length (words_per_call * calls) (least_of idle) (instruction_line program frames c.active.function c.active.next) (end_of c i) c.output (After program pages calls c) (Comes_to idle c) (Running ready.run)
@@ -482,7 +483,7 @@ module _ (program : Program) (well : IsWellFormed program) (words : HasWords pro
       performed_lighter (plain.StoreGlobal global source) is_one = omega (arith, some)
       performed_lighter j is_one = absurd (false≢true is_one)
 
-  -- The labelled machine matches a step of an instruction whose first line was already executed before the branch to it.
+  -- The labelled machine (MIPS lines) simulates a step of an instruction whose first line was already executed before the branch to it.
   begun_goes : (c : Configuration) (t : State) → Begun program well frames fit code formed addresses pages calls few c t → Never c → IsStepped above below_machine matching (states.Running c) t
   begun_goes c t begun never = go begun.i begun.at begun.busy begun.more
     where
@@ -534,7 +535,7 @@ module _ (program : Program) (well : IsWellFormed program) (words : HasWords pro
       → IsStepped above below_machine matching (states.Running c) t
   known_goes c t matches never i at = go (is_idle (frame_at frames c.active.function) c.active.next i) refl matches
     where
-      -- The labelled machine matches a step if the instruction's own lines come next.
+      -- The labelled machine (MIPS lines) simulates a step of the plain machine if the current instruction's own lines come next.
       then_goes : (idle : Bool) → is_idle (frame_at frames c.active.function) c.active.next i ≡ idle → (u : State) → Ready program well frames fit code formed addresses pages calls few c u
           → Walk code formed addresses globals_length (words_per_call * calls) (least_of idle) (instruction_line program frames c.active.function c.active.next) (end_of c i) c.output (After program pages calls c) (Comes_to idle c) u
       then_goes idle is u ready =

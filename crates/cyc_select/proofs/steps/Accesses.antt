@@ -131,7 +131,7 @@ module _ (globals stack : ℕ) (frame : Frame) (r : Words) (w : Contents) (slots
 -- ---- addresses
 
 module _ (globals stack : ℕ) (frame : Frame) (base : ℕ) (w : Contents) (r slots : Words) (q : Words) (m : Contents) (zero_is : q ZERO ≡ 0) (same : q FRAME ≡ base) (memory : m ≡ w) (values : ValuesSame q r) where
-  -- `IsAddressed` says that after the instructions `is`, a register plus an immediate is the accessed address.
+  -- `IsAddressed` says that after the instructions in the list `is`, the sum of a register and an immediate is the accessed address.
   record IsAddressed (is : List Instr) (register half address : ℕ) : Type 0 where
     pub keeps : Keeps globals stack is q m FIRST
     pub comes : memory_address (after_r is q m (register % 32)) half ≡ address
@@ -231,7 +231,7 @@ module _ (program : Program) (well : IsWellFormed program) (frames : List Frame)
         ],
       )
 
-  -- `IsCounted` says that the number of MIPS lines emitted for an instruction is the length of its full code.
+  -- `IsCounted` says that an instruction is not left out: as many MIPS lines are emitted for it as its code has.
   abbrev pub IsCounted : Instruction → Type 0
   IsCounted i = count_of program frames c.active.function c.active.next i ≡ body_count program frames c.active.function i
 
@@ -287,7 +287,7 @@ module _ (program : Program) (well : IsWellFormed program) (frames : List Frame)
             (λ slot k has. (moved_apart destination source count at_i crossing slot k has).0) (λ slot k has. (moved_apart destination source count at_i crossing slot k has).1) (all_same q r take.keeps.values) caches;
       }))))))
 
-  -- The labelled machine matches a move of several words if the words are moved one by one.
+  -- The labelled machine (MIPS lines) simulates a move of several words if the words are moved one by one.
   each_goes : (destination source count : ℕ) → IsAt (plain.MoveWords destination source count) → IsMoveInRange (routine_at program c.active.function) destination source count
       → is_crossing destination source count ≡ false → IsCounted (plain.MoveWords destination source count)
       → Stands code here (ordinary (moves frame destination source count)) → Goes 1 here (here + moves_count frame destination source count) (Running run)
@@ -357,7 +357,7 @@ module _ (program : Program) (well : IsWellFormed program) (frames : List Frame)
     pub does : (word : ℕ) → memory_at program c (word_place width (add_of (word_in address) offset)) ≡ Some word → performed program zeros c i ≡ gives c destination (loaded_part width (add_of (word_in address) offset) word)
     pub count : count_of program frames c.active.function c.active.next i ≡ address_count frame address offset + 1 + keep_count frame destination
 
-  -- The labelled machine matches a load from an address at which the plain program has a word.
+  -- The labelled machine (MIPS lines) simulates a load from an address at which the plain program has a word.
   loaded_goes : (width : Width) (i : Instruction) (destination : ℕ) (address : Operand) (offset word : ℕ) → IsLoad width i destination address offset → destination < slots → IsThere address → IsWord offset
       → memory_at program c (word_place width (add_of (word_in address) offset)) ≡ Some word
       → Stands code here (load_at frame (load_op width) destination address offset) → Goes 1 here (here + (address_count frame address offset + 1 + keep_count frame destination)) (Running run)

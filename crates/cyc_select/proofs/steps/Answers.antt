@@ -41,8 +41,8 @@ results_low (suc (suc zero)) few = ((omega arith), ((omega arith), tt))
 results_low (suc (suc (suc zero))) few = ((omega arith), ((omega arith), ((omega arith), tt)))
 results_low (suc (suc (suc (suc count)))) few = absurd (omega (arith, few))
 
--- The module assumes registers that hold the words to be written to the slots `from` to `past`. No slot that is live at the next
--- instruction shares a register with one of the slots to be written.
+-- The module assumes registers with the words that are to be written to the slots `from` to `past`. No slot that is live at the
+-- next instruction shares a register with one of the slots to be written.
 module _ (program : Program) (well : IsWellFormed program) (frames : List Frame) (fit : AreFrames program frames) (addresses : ℕ → ℕ) (pages calls : ℕ) (few : calls ≤ 4096)
     (again : Bool) (c : Configuration) (base back : ℕ) (in_frame : Bool) (next from past : ℕ) (p : Words) (words : (n : ℕ) → n < 6 → IsWord (p n)) (inside : past ≤ (routine_at program c.active.function).slots)
     (shares : (d slot k : ℕ) → from ≤ d → d < past → value_register (frame_at frames c.active.function) d ≡ Some k → value_register (frame_at frames c.active.function) slot ≡ Some k

@@ -89,7 +89,7 @@ module _ (program : Program) (well : IsWellFormed program) (frames : List Frame)
   abbrev IsFree : Instruction → Type 0
   IsFree i = calls_nothing i ≡ true
 
-  -- `IsCounted` says that the number of MIPS lines emitted for an instruction is the length of its full code.
+  -- `IsCounted` says that an instruction is not left out: as many MIPS lines are emitted for it as its code has.
   abbrev IsCounted : Instruction → Type 0
   IsCounted i = count_of program frames c.active.function c.active.next i ≡ body_count program frames c.active.function i
 
@@ -113,7 +113,7 @@ module _ (program : Program) (well : IsWellFormed program) (frames : List Frame)
   line_taken true target other line n same = refl
   line_taken false target other line n same = same
 
-  -- A block of instructions that leaves the tested words in two registers, followed by the branch, matches a branch of the plain program.
+  -- A block of instructions that leaves the tested words in two registers, followed by the branch, simulates a branch of the plain program.
   branch_plain : (i : Instruction) → IsAt i → IsFree i → (is : List Instr) (condition : Condition) (target count : ℕ) (taken : Bool) → KeepsHere is
       → holds_of (after_r is r w) condition ≡ taken → performed program zeros c i ≡ states.Running (at c (if taken then target else c.active.next + 1))
       → ((slot : ℕ) → writes program i slot ≡ false) → leads i c.active.next (if taken then target else c.active.next + 1) ≡ true
@@ -273,7 +273,7 @@ module _ (program : Program) (well : IsWellFormed program) (frames : List Frame)
             walk_end code formed addresses globals_length (words_per_call * calls) (suc (here + length is + 1)) (here + count) c.output _ _ (omega (arith, long))
             (other_reached (here + length is + 1 + 1) (labelled.at (moved d x) (here + length is + 1 + 1)) next after does led))
 
-  -- The labelled machine matches a branch with or without a hoisted line.
+  -- The labelled machine (MIPS lines) simulates a branch with or without a hoisted line.
   branch_by : (i : Instruction) → IsAt i → IsFree i → (is : List Instr) (condition : Condition) (target count : ℕ) (taken : Bool) (first : Option Instr) → IsKnownFirst condition target first → KeepsHere is
       → holds_of (after_r is r w) condition ≡ taken → performed program zeros c i ≡ states.Running (at c (if taken then target else c.active.next + 1))
       → ((slot : ℕ) → writes program i slot ≡ false) → leads i c.active.next (if taken then target else c.active.next + 1) ≡ true

@@ -81,7 +81,7 @@ module _ (program : Program) (well : IsWellFormed program) (frames : List Frame)
   abbrev mine : Frame
   mine = frame_at frames c.active.function
 
-  -- Returns the callee's frame as callers see it, with the homes in which arguments arrive.
+  -- Returns the callee's frame in which each parameter has the home (register or memory) in which callers pass it.
   abbrev its : Frame
   its = coming (frame_at frames callee)
 

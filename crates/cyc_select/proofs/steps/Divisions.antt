@@ -145,7 +145,8 @@ module _ (program : Program) (well : IsWellFormed program) (frames : List Frame)
     abbrev hi : ℕ
     hi = here + divide_count frame destination left right
 
-    -- After the division instruction, the MIPS lines that move its result from HI or LO to the destination match the plain machine's step.
+    -- After the division instruction, the MIPS lines that move its result from HI or LO to the destination simulate the plain machine's
+    -- step.
     finished : (q : Words) (d : labelled.Configuration) → At program well frames fit code formed addresses pages calls few (here + loads + 5) c.output c.input q w d → Stands code (here + loads + 5) (ordinary (reads_part which destination ++ keep_code frame destination))
         → Agrees program well frames fit code formed addresses pages calls few c run r w base back now s caches FIRST q → q (part which) ≡ result_of which (word_of left) (word_of right)
         → Goes 0 (here + loads + 5) (here + divide_count frame destination left right) (Running d)

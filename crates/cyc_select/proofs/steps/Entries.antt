@@ -153,7 +153,7 @@ module _ (program : Program) (well : IsWellFormed program) (frames : List Frame)
   abbrev last : Words
   last = after_r (arrivals frame) e.r final
 
-  -- The saves and loads of parameters at a function's entry leave exactly the registers `last`.
+  -- After the lines that save registers and load parameters at a function's entry, the registers are exactly those of `last`.
   registers_same : after_r (saving_code frame) e.r e.w ≡ last
   registers_same =
       after_r-append (way_code frame) (saves frame ++ arrivals frame) e.r e.w

@@ -238,8 +238,8 @@ module _ (program : Program) (well : IsWellFormed program) (frames : List Frame)
       in_record : first + 4 ≤ slots
       in_record = in_range.record_in_range
 
-      -- Storing a register's word at a slot's word of the frame writes this slot and keeps `Standing`
-      -- (registers and memory represent the calls).
+      -- Storing a register's word at a slot's word of the frame writes this slot and keeps `Standing` (registers and memory represent the
+      -- calls).
       put_slot : (q : Words) (m : Contents) (there : Words) (slot word : ℕ) → slot < slots → Standing program frames addresses pages calls c q m base back (under_way true) there
           → Standing program frames addresses pages calls c q (written m (memory_address (q FRAME) (slot_offset frame slot)) word) base back (under_way true) (put there slot word)
       put_slot q m there slot word below stands =

@@ -367,7 +367,7 @@ pub hoists : (program : Program) (frames : List Frame) (function target : ℕ) (
 hoists program frames function target test x is =
     of_place program frames function target (condition_of (frame_at frames function) test) x (slice_get (routine_at program function).code target) refl is
 
--- If a piece of code stands at a line number, its first line is the line with this number.
+-- If a nonempty piece of code stands at a line number, its first line is the line with this number.
 pub stands_at_head : (code : Labelled) (k : ℕ) (ls rest : List Line) (l : Line) → ls ≡ l ∷ rest → Stands code k ls → slice_get code.lines k ≡ Some l
 stands_at_head code k ls rest l same stands = (subst (Stands code k) same stands).0
 
@@ -398,7 +398,7 @@ module _ (condition : Condition) (own : Option ℕ) (register : ℕ) (may : may_
     | inr is ↦ inr (own_is own is)
   ]
 
-  -- If the hoisted line writes a register that slots can have, this register belongs to the slot that the target instruction computes.
+  -- If the hoisted line writes a register that slots can have, this register is that of the slot that the target instruction computes.
   pub of_value : (n : ℕ) → 6 ≤ n → n < 24 → n ≡ register → own ≡ Some n
   of_value n low high same = elim which [
     | inl (inl first) ↦ absurd (omega (arith, first, same, high))

@@ -173,8 +173,8 @@ module _ (program : Program) (well : IsWellFormed program) (frames : List Frame)
             (live_earlier program frames c.active.function right c.active.next (c.active.next + 1) slot (plain.Move destination (operands.Slot destination)) at_i (eqb_next c.active.next) (eqb_other destination slot other) wanted)
       ])
 
-  -- If a move copies a word to a slot whose register already holds this word, the machine's state
-  -- also matches the plain state after the move.
+  -- If a move copies a word to a slot whose register already holds this word, the machine's state also matches the plain state after the
+  -- move.
   passes_there : (destination number register : ℕ) → IsAt (plain.Move destination (operands.Slot number)) → is_idle (frame_at frames c.active.function) c.active.next (plain.Move destination (operands.Slot number)) ≡ true
       → homing.home_of (frame_at frames c.active.function).homes destination ≡ homes.Register register → value_register (frame_at frames c.active.function) number ≡ Some register → Passes
   passes_there destination number register at_i idle home has =

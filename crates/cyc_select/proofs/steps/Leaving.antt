@@ -71,7 +71,7 @@ module _ (program : Program) (well : IsWellFormed program) (frames : List Frame)
   abbrev Goes : (least lo hi : ℕ) → State → Type 0
   Goes least lo hi t = Walk code formed addresses globals_length (words_per_call * calls) least lo hi c.output (After program pages calls c) (Reached program well frames fit code formed addresses pages calls few c) t
 
-  -- The slots that a function returns are live at the return, so their words are held in registers or memory.
+  -- The slots that a function returns are live at the return, so the word of each is in a register or in memory.
   returned_held : (slot : ℕ) → value ≤ slot → slot < value + results → HeldIn globals_length (words_per_call * calls) (value_register frame slot) frame (r FRAME) w r c.active.slots slot
   returned_held slot from below =
       slot_held program well frames fit code formed addresses pages calls few c run r w base back now s caches (value_register frame slot) slot refl (omega (arith, below, in_range))

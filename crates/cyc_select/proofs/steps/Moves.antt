@@ -185,7 +185,7 @@ module _ (program : Program) (well : IsWellFormed program) (frames : List Frame)
       → (value_register (frame_at frames c.active.function) destination ≡ Some n → ⊥) → n ≢ made_in (frame_at frames c.active.function) destination % 32
   made_aside destination k n has other e = other (has ∙ ap Some (let f : k ≡ n = omega (arith, e, made_here destination k has) in f))
 
-  -- The code that moves one word writes the source's word to the destination slot.
+  -- The MIPS code that moves one word between slots writes the source slot's word to the destination slot.
   one_moved : (q : Words) (m : Contents) (x : Words) → StandsWith q m x → (destination source : ℕ) → destination < (routine_at program c.active.function).slots → source < (routine_at program c.active.function).slots
       → ((k : ℕ) → value_register (frame_at frames c.active.function) source ≡ Some k → q k ≡ x source) → IsWord (x source)
       → HasGiven (move_to (value_register (frame_at frames c.active.function) destination) (frame_at frames c.active.function) destination (operands.Slot source)) destination (x source) q m x

@@ -142,7 +142,7 @@ regions_reported (requests.Allocate destination handle words) store slots q m ch
     before ∙ ap (λ (n : ℕ). n % 2 ^ 32) (sym (lexical_made store (operand_word slots handle) (services.block_of (operand_word slots handle) (operand_word slots words) choice)))
 regions_reported (requests.Free address) store slots q m choice sound free first before = before
 
--- The result of a request to the store (the heap of regions) changes only the two result registers.
+-- A store request's answer changes only the two result registers.
 answered-other : (a : Answer) (q : Words) (n : ℕ) → n ≢ 2 → n ≢ 3 → answered_r a q n ≡ q n
 answered-other (services.Refused why) q n first second = refl
 answered-other services.Done q n first second = refl
@@ -210,8 +210,8 @@ module _ (program : Program) (well : IsWellFormed program) (frames : List Frame)
 
   -- ---- the operands of a request
 
-  -- `HasArgument` says that after the instructions, a register holds the word of an operand, if
-  -- there is one, and other registers are unchanged.
+  -- `HasArgument` says that after the instructions, a register holds the word of an operand, if there is one, and other registers are
+  -- unchanged.
   record HasArgument (is : List Instr) (register : ℕ) (o : Option Operand) (q : Words) (m : Contents) : Type 0 where
     pub safe : AreSafe globals_length (words_per_call * calls) is q m
     pub memory : after_w is q m ≡ m
@@ -273,7 +273,7 @@ module _ (program : Program) (well : IsWellFormed program) (frames : List Frame)
     stored_few : length (counts ++ answers) ≡ regions_count request + gives_count frame (destination_of request) (answer_count request)
     stored_few = omega (arith, length-append counts answers, length_regions request, length_answer frame request)
 
-    -- The instruction that makes a request reads the slots of the request's operands.
+    -- The instruction that makes a request to the store reads the slots of the request's operands.
     first_used : (one : Request) (operand : Operand) (slot : ℕ) → first_operand one ≡ Some operand → is_slot operand slot ≡ true → request_reads one slot ≡ true
     first_used (requests.OpenLexical destination) operand slot some is_it = absurd (let e : None ≡ Some operand = some in cc)
     first_used (requests.CloseTo mark) operand slot some is_it = ap (λ (o : Operand). is_slot o slot) (same_from_some some) ∙ is_it
@@ -315,7 +315,7 @@ module _ (program : Program) (well : IsWellFormed program) (frames : List Frame)
     unchanged : after_w js q v ≡ w
     unchanged = second.memory ∙ first.memory
 
-    -- Loading the arguments of a request changes no registers other than the argument registers.
+    -- Loading the arguments of a request to the store changes no registers other than the argument registers.
     kept : (n : ℕ) → n < 32 → n ≢ ARGUMENT → n ≢ SECOND_ARGUMENT → p n ≡ r n
     kept n below other also = second.others n below also ∙ first.others n below other
 
@@ -340,7 +340,7 @@ module _ (program : Program) (well : IsWellFormed program) (frames : List Frame)
     last_lines : Stands code (here + length is + length js) (ordinary last)
     last_lines = stands_after code (here + length is) js last after_lines
 
-    -- The labelled machine matches a request to the store by the lines that load its arguments and make the system call.
+    -- The labelled machine (MIPS lines) simulates a request to the store by the lines that load its arguments and make the system call.
     called_goes : (n : ℕ) → 0 < n
         → ((d : labelled.Configuration) → At program well frames fit code formed addresses pages calls few called c.output c.input ready w d → Goes n called hi (Running d))
         → Goes 1 here hi (Running run)
@@ -495,7 +495,7 @@ module _ (program : Program) (well : IsWellFormed program) (frames : List Frame)
             subst (λ (x : Words). Standing program frames addresses pages calls c1 brought m base back (stage_of frames c) x) (reported_is request c.store c.active.slots ready w1 chosen) stored.standing in
             standing_at program well frames fit addresses pages calls few c1 brought m base back (stage_of frames c) there in_slots next refl refl refl refl refl refl s.input
 
-        -- If two blocks of instructions are safe, executing one after the other is safe.
+        -- The lines that count open regions, followed by those that write a request's result to slots, do not trap.
         block_safe : AreSafe globals_length (words_per_call * calls) (counts ++ answers) answered w1
         block_safe =
             safe_append globals_length (words_per_call * calls) counts answers answered w1 (regions_safe globals_length (words_per_call * calls) request answered w1)

@@ -120,7 +120,7 @@ module _ (program : Program) (well : IsWellFormed program) (frames : List Frame)
   abbrev IsFree : Instruction → Type 0
   IsFree i = calls_nothing i ≡ true
 
-  -- `IsCounted` says that the number of MIPS lines emitted for an instruction is the length of its full code.
+  -- `IsCounted` says that an instruction is not left out: as many MIPS lines are emitted for it as its code has.
   abbrev pub IsCounted : Instruction → Type 0
   IsCounted i = count_of program frames c.active.function c.active.next i ≡ body_count program frames c.active.function i
 
@@ -186,8 +186,8 @@ module _ (program : Program) (well : IsWellFormed program) (frames : List Frame)
   stored_length true register destination = refl
   stored_length false register destination = refl
 
-  -- A block that computes a word in a register, followed by a store if the slot's home includes memory, matches an instruction that
-  -- writes this word. If the slot has a register, the block computes the word in this register.
+  -- A block that computes a word in a register, and stores it if the slot's home includes memory, simulates a plain instruction
+  -- that writes the word. If the slot has a register, the block computes the word in this register.
   gives_from : (i : Instruction) → IsAt i → IsFree i → (destination word : ℕ) (input : List ℕ) → Gets i destination → destination < slots → performed program zeros c i ≡ gives (record c { input = input }) destination word
       → AllByRecursion IsWord input → (line count : ℕ) (q : Words) (d : labelled.Configuration) → At program well frames fit code formed addresses pages calls few line c.output input q w d
       → (is : List Instr) (register but : ℕ) → Agrees but q → Keeps globals_length (words_per_call * calls) is q w but → after_r is q w (register % 32) ≡ word
@@ -240,7 +240,7 @@ module _ (program : Program) (well : IsWellFormed program) (frames : List Frame)
       gives_from i at_i free destination word input given below does fine line count q d now_d is (made_in frame destination) (made_in frame destination % 32) agrees keeps result
       (λ k has. ap (after_r is q w) (made_here destination k has) ∙ result) (made_aside destination) long counted stands
 
-  -- The labelled machine matches an instruction that writes a computed word, from the instruction's first line on.
+  -- The labelled machine (MIPS lines) simulates an instruction that writes a computed word, from the instruction's first line on.
   pub gives_by : (i : Instruction) → IsAt i → IsFree i → (is : List Instr) (destination word count : ℕ) → 0 < length is → Keeps globals_length (words_per_call * calls) is r w (made_in frame destination % 32) → after_r is r w (made_in frame destination % 32) ≡ word
       → Gets i destination → destination < slots → performed program zeros c i ≡ gives c destination word → length is + keep_count frame destination ≡ count → count_of program frames c.active.function c.active.next i ≡ count
       → Stands code here (ordinary (is ++ keep_code frame destination)) → Goes 1 here (here + count) (Running run)
@@ -248,7 +248,7 @@ module _ (program : Program) (well : IsWellFormed program) (frames : List Frame)
       walk_few code formed addresses globals_length (words_per_call * calls) 1 (length is + keep_count frame destination) here (here + count) c.output _ (Running run) (omega (arith, some))
       (gives_made i at_i free destination word c.input given below does s.input here count r run now is (agrees_itself (made_in frame destination % 32)) keeps result (omega (arith, long)) counted stands)
 
-  -- The labelled machine matches an instruction that writes a register's word to a slot.
+  -- The labelled machine (MIPS lines) simulates an instruction that writes a register's word to a slot.
   pub gives_register : (i : Instruction) → IsAt i → IsFree i → (destination word : ℕ) (input : List ℕ) → Gets i destination → destination < slots → performed program zeros c i ≡ gives (record c { input = input }) destination word
       → AllByRecursion IsWord input → (line count source : ℕ) (q : Words) (d : labelled.Configuration) → At program well frames fit code formed addresses pages calls few line c.output input q w d → Agrees FIRST q
       → q (source % 32) ≡ word → IsWord word
@@ -324,7 +324,8 @@ module _ (program : Program) (well : IsWellFormed program) (frames : List Frame)
           (puts_keeps globals_length (words_per_call * calls) is r w (made_in frame destination % 32) _ _ (made_in frame destination % 32) (made_in_scratch destination) (λ n n_low n_high other. other) puts) puts.result
           (gets destination) below refl (omega (arith, length_load frame k source, counted)) all_counted stands_here
 
-  -- The labelled machine matches an instruction that writes the result of a plan (a sequence of machine operations) to a slot.
+  -- The labelled machine (MIPS lines) simulates an instruction that writes the result of a plan (a sequence of machine
+  -- operations) to a slot.
   plan_goes : (i : Instruction) → IsAt i → IsFree i → (plan : Plan) (destination word : ℕ) → Held plan.left × Held plan.right × IsComputable globals_length (words_per_call * calls) plan.operation (word_of plan.left) (word_of plan.right)
       → plan_word c.active.slots plan ≡ word → Gets i destination → destination < slots → performed program zeros c i ≡ gives c destination word → count_of program frames c.active.function c.active.next i ≡ plan_count frame plan destination
       → Stands code here (ordinary (plan_code frame plan destination)) → Goes 1 here (here + plan_count frame plan destination) (Running run)
@@ -361,7 +362,8 @@ module _ (program : Program) (well : IsWellFormed program) (frames : List Frame)
       plan_goes (plain.Unary operator destination operand) at_i refl (unary_plan operator operand) destination (unary_result operator (word_of operand))
       (unary_there operator operand operand_there) (unary_word c.active.slots operand (is_word operand operand_there) operator) (gets destination) below refl counted stands
 
-  -- The labelled machine matches an operator computed by a plan (a sequence of machine operations), without a test of the divisor.
+  -- The labelled machine (MIPS lines) simulates an operator computed by a plan (a sequence of machine operations), without a test
+  -- of the divisor.
   pub binary_goes : (operator : BinaryOperator) (destination : ℕ) (left right : Operand) → IsAt (plain.Binary operator destination left right) → destination < slots → IsThere left → IsThere right
       → is_tested operator right ≡ false
       → performed program zeros c (plain.Binary operator destination left right) ≡ gives c destination (binary_result operator (word_of left) (word_of right))

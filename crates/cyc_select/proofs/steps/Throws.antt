@@ -103,7 +103,7 @@ module _ (program : Program) (well : IsWellFormed program) (frames : List Frame)
         ∙ (cond-true (nat_le 17 (17 + j) && nat_lt (17 + j) 24) (left (17 + j - 17)) (q (17 + j)) (and_from _ _ (le-leb 17 (17 + j) (omega arith)) (lt-ltb (17 + j) 24 (omega (arith, high))))
         ∙ ap left (let e : 17 + j - 17 ≡ j = omega arith in e))
 
-    -- `IsFound` describes the call whose handler catches the exception, as if this call were the active one.
+    -- `IsFound` describes the call whose handler catches the thrown exception, as if this call were the active one.
     record IsFound (tag value : ℕ) (t : states.State) : Type 0 where
       pub call : Activation
       pub waiting : List states.Frame
@@ -219,7 +219,7 @@ module _ (program : Program) (well : IsWellFormed program) (frames : List Frame)
           (λ none. search waiting f.caller _ _ _ same (unsaved_popped call f waiting q low back unsaved stands) (popped call f waiting q low back none stands))
           call.handlers refl stands.newest
 
-      -- The module concerns the words of the handler record in memory.
+      -- The module concerns the words of the record, in memory, of the handler that catches the exception.
       module _ (t : states.State) (it : IsFound tag value t) where
         abbrev its : Frame
         its = frame_at frames it.call.function
@@ -264,7 +264,7 @@ module _ (program : Program) (well : IsWellFormed program) (frames : List Frame)
         some : r HANDLERS ≢ 0
         some none = absurd (omega (arith, none, record_at, its_lies.above_low, it.stands.deep))
 
-        -- The module assumes that the run continues at the handler, with registers loaded from the handler's record.
+        -- The module assumes that the run continues at the exception handler, with registers loaded from the handler's record.
         module _ (final : Words) (zero_is : final 0 ≡ 0) (previous_is : final HANDLERS ≡ it.contents 0) (base_is : final FRAME ≡ it.contents 1) (lowest_is : final LOWEST ≡ r LOWEST) (count_is : final REGIONS ≡ r REGIONS) (middle_is : final GLOBALS ≡ r GLOBALS)
             (preserved_is : (j : ℕ) → j < 7 → preserved_of final j ≡ preserved_of r j) (tag_is : final 4 ≡ tag) (value_is : final 5 ≡ value) (g : labelled.Configuration)
             (at_line : At program well frames fit code formed addresses pages calls few (instruction_line program frames it.call.function it.index + 3) c.output c.input final w g) where
@@ -424,7 +424,7 @@ module _ (program : Program) (well : IsWellFormed program) (frames : List Frame)
           (λ e later.
           further e (now_is code formed addresses globals_length (words_per_call * calls) k c.output c.input p (after_w js q v) p w e refl unchanged later))))
 
-      -- If no handler catches the exception, the labelled machine matches the end of the run.
+      -- If no handler catches the exception, the labelled machine (MIPS lines) simulates the end of the run.
       ends_goes : r HANDLERS ≡ 0 → performed program zeros c (plain.Throw tag value) ≡ states.Ended (Uncaught (word_in tag) (signed (word_in value))) c.output c.input → Goes 1 here hi (Running run)
       ends_goes none does =
           let stays : (if not (p HANDLERS == p ZERO) then label else k + 1) ≡ k + 1 = ap (λ (b : Bool). if not b then label else k + 1) (eq-eqb (p HANDLERS) (p 0) (p_newest ∙ (none ∙ sym p_zero))) in
@@ -443,7 +443,7 @@ module _ (program : Program) (well : IsWellFormed program) (frames : List Frame)
           (over_within pages calls (Uncaught (word_in tag) (signed (word_in value))) c.output c.input)
           (ap (λ (x : Ending). Ended x c.output c.input) ending_is))))))
 
-      -- The module concerns an exception that reaches a handler.
+      -- The module concerns a thrown exception that reaches a handler.
       module _ (it : IsFound (word_in tag) (word_in value) (performed program zeros c (plain.Throw tag value))) where
         abbrev final : Words
         final = after_r unwound_code p w

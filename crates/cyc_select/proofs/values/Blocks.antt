@@ -1,4 +1,4 @@
--- A block is a sequence of safe instructions that writes registers and leaves memory unchanged.
+-- A block is a sequence of instructions that do not trap; it writes registers and leaves memory unchanged.
 use Rattle.std.proofs.Common.{◌≡◌, ◌≢◌, ℕ, ◌<◌, ◌≤◌, List, [], ◌∷◌, ◌++◌, ap, ◌∙◌, arith}
 use Rattle.cyc_isa.specs.declared.instr.Instr.{Instr}
 use Rattle.cyc_machine_model.specs.declared.constants.TheConstants.{RETURN_ADDRESS}

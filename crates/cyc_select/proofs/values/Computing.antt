@@ -283,7 +283,7 @@ module _ (globals stack : ℕ) where
       ap (λ (x : ℕ). add_of x (sign_extended 65535)) zero ∙ (ap (add_of 0) (sign_extended_high 65535 (omega arith) (omega arith)) ∙ refl)
 
   -- `Leaves` says that the instructions leave this word in the target register, and change no reserved
-  -- register and no register of another slot.
+  -- register and no register that another slot may have.
   pub record Leaves (is : List Instr) (q : Words) (m : Contents) (target word : ℕ) : Type 0 where
     pub keeps : Keeps globals stack is q m (target % 32)
     pub result : after_r is q m (target % 32) ≡ word

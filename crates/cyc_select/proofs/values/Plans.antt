@@ -322,7 +322,7 @@ not_truth_zero : (t : Bool) → not (truth t == 0) ≡ t
 not_truth_zero true = refl
 not_truth_zero false = refl
 
--- A branch on the word that a plan computes before its final step is taken exactly if the plan's result would be 1.
+-- A branch on the word that a plan (machine operations) computes before its final step is taken exactly if the plan's result would be 1.
 branches_on : (o : Outcome) (word : ℕ) (t : Bool) → outcome_result o word ≡ truth t → branch_taken (branch_on o) word 0 ≡ t
 branches_on outcomes.AsItIs word t is = ap (λ (n : ℕ). not (n == 0)) is ∙ not_truth_zero t
 branches_on outcomes.WhetherZero word t is = truth_injective (word == 0) t is
@@ -435,7 +435,8 @@ module _ (P : Operand → Type 0) (zero : P (operands.Word 0)) (Q : Plan → Typ
   all_unary unary.Complement operand o = of_arithmetic arithmetic.Nor (operands.Word 0) operand outcomes.AsItIs zero o
   all_unary unary.Not operand o = all_comparison comparisons.Equal operand (operands.Word 0) o zero
 
-  -- `AllOfTest` says that a test's operands have a property of operands, or that the plan that it computes has a property of plans.
+  -- `AllOfTest` says that the operands that a test compares satisfy `P`, or that the plan (machine operations) that it computes
+  -- satisfies `Q`.
   abbrev pub AllOfTest : Test → Type 0
   AllOfTest (tests.Operands op left right) = P left × P right
   AllOfTest (tests.Sign op operand) = P operand
@@ -504,7 +505,7 @@ module _ (P : Operand → Type 0) (zero : P (operands.Word 0)) (Q : Plan → Typ
     all_operator binary.GreaterOrEqual left right fine l r = all_comparison comparisons.GreaterOrEqual left right l r
 
     -- Exchanging the operands of a commutative operator, which is never a division, keeps the property of the plan
-    -- that computes this operator.
+    -- (machine operations) that computes this operator.
     all_swapped : (operator : BinaryOperator) (left right : Operand) → is_swapped operator left ≡ true → P left → P right → Q (operator_plan operator right left)
     all_swapped binary.Add left right is l r = all_operator binary.Add right left refl r l
     all_swapped binary.Multiply left right is l r = all_operator binary.Multiply right left refl r l

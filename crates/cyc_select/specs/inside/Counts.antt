@@ -1,4 +1,4 @@
--- Counts the lines of each instruction, and computes the line number at which its code begins.
+-- Counts the MIPS lines of each plain instruction, and computes the line number at which they begin.
 use Rattle.std.specs.Prelude.{ℕ, suc, ◌+◌, ◌*◌, ◌==◌, if◌then◌else◌, List, [], ◌∷◌, length, take, Option, Some, None}
 use Rattle.cyc_registers.specs.inside.Bars.{is_crossing}
 use Rattle.cyc_plain.specs.declared.instruction.Instruction.{Instruction}
@@ -17,16 +17,16 @@ use Rattle.cyc_select.specs.inside.Operands.{word_count, load_count, operand_cou
 use Rattle.cyc_select.specs.inside.Passing.{spills_count, copies_count}
 use Rattle.cyc_select.specs.inside.Hoisting.{is_idle, hoisted, hoisted_count}
 
--- Returns the number of MIPS lines at a return of `main` that end the run when its first call returns; 0 for other functions.
+-- Returns the number of MIPS lines that end the run at a return of `main`, if this is the return of its first call; 0 for other functions.
 abbrev pub ending_count : Program → (function : ℕ) → ℕ
 ending_count program function = if function == program.main then 4 else 0
 
--- Returns the number of MIPS lines that load an argument of a request; 0 if the request has no such argument.
+-- Returns the number of MIPS lines that load an argument of a request to the store; 0 if the request has no such argument.
 abbrev pub argument_count : Option Operand → ℕ
 argument_count None = 0
 argument_count (Some operand) = load_count operand
 
--- Returns the number of MIPS lines of a request that update the count of open lexical regions.
+-- Returns the number of MIPS lines of a request to the store that update the count of open lexical regions.
 abbrev pub regions_count : Request → ℕ
 regions_count (requests.OpenLexical destination) = 1
 regions_count (requests.CloseTo mark) = 1
@@ -102,7 +102,8 @@ after_count program frames function (plain.Call callee arguments count result) =
     (routine_at program callee).results + reload_count (frame_at frames function)
 after_count program frames function instruction = 0
 
--- Returns the number of MIPS lines in the body of the instruction at `index`: 0 if the instruction needs no machine code.
+-- Returns the number of MIPS lines of the instruction at `index`, without those executed after a call returns: 0 if the
+-- instruction needs no machine code.
 abbrev pub place_count : Program → List Frame → (function index : ℕ) → Instruction → ℕ
 place_count program frames function index instruction =
     if is_idle (frame_at frames function) index instruction then 0 else body_count program frames function instruction

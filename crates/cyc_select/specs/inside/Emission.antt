@@ -45,7 +45,7 @@ abbrev pub IsArgumentFound : Frame → Option Operand → Type 0
 IsArgumentFound frame (Some operand) = IsFound frame operand
 IsArgumentFound frame None = Unit {0}
 
--- `IsRequestFound` says that the frame offsets of a request's operands and result slots fit a load or store instruction.
+-- `IsRequestFound` says that the frame offsets of the operands and result slots of a store request fit a load or store instruction.
 pub record IsRequestFound (frame : Frame) (request : Request) : Type 0 where
   pub first : IsArgumentFound frame (first_operand request)
   pub second : IsArgumentFound frame (second_operand request)

@@ -110,18 +110,19 @@ first_line frame (plain.WriteByte source) = load_first frame ARGUMENT source
 first_line frame (plain.StoreGlobal global source) = operand_first frame FIRST source None
 first_line frame instruction = None
 
--- Returns the register of the slot that an instruction computes, if the slot has one.
+-- Returns the register of the slot to which an instruction writes its result, if the slot has one.
 abbrev pub given_register : Frame → Instruction → Option ℕ
 given_register frame (plain.Move destination source) = value_register frame destination
 given_register frame (plain.Unary operator destination operand) = value_register frame destination
 given_register frame (plain.Binary operator destination left right) = value_register frame destination
 given_register frame instruction = None
 
--- Returns the register of the slot that the branch target computes, if the frame permits copies of the target's first line in delay slots.
+-- Returns the register of the slot to which the branch target writes its result, if the frame permits copies of the target's first line in
+-- delay slots.
 abbrev pub own_register : Frame → (target : ℕ) → Instruction → Option ℕ
 own_register frame target instruction = if fills_at frame.fills target then given_register frame instruction else None
 
--- Returns the register that an instruction computes, if it reads registers only.
+-- Returns the register that an instruction writes, if it reads registers only.
 abbrev pub target_of : Instr → Option ℕ
 target_of (machine.Immediate op target source half) = Some target.number
 target_of (machine.LoadUpper target half) = Some target.number

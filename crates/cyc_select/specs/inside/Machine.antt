@@ -76,8 +76,8 @@ abbrev pub closed : World → Option Ending → State
 closed w (Some ending) = Ended ending w.output w.input
 closed w None = Stopped w.output w.input
 
--- Returns the labelled state that corresponds to a state of the MIPS machine with its input and
--- output. If the machine is running, `line` is the next line.
+-- Returns the labelled state that corresponds to a state of the MIPS machine with its input and output. If the machine is running, `line`
+-- is the next line.
 abbrev pub settled : World → (line : ℕ) → Phase → State
 settled w line phases.Running = Running (from_world w line)
 settled w line phases.Waiting = Stopped w.output w.input
@@ -97,7 +97,7 @@ PerformsOrdinary false c instruction new = new ≡ Stopped c.output c.input
 abbrev pub word_in : Configuration → ℕ → ℕ
 word_in c number = register (core_of c) number
 
--- Returns the configuration with this number of the next line.
+-- Returns the configuration whose next line has the number `line` and that is otherwise unchanged.
 abbrev pub at : Configuration → ℕ → Configuration
 at c line = record c { line = line }
 

@@ -1,5 +1,6 @@
 -- Plans: the machine operation and operands that compute an operator or a comparison. The plans are this project's own choice;
--- `proofs/values/Plans` proves that the plans of this file compute the plain program's operators and comparisons.
+-- `proofs/values/Plans` proves that the plans of this file (machine operations with their operands) compute the
+-- plain program's operators and comparisons.
 use Rattle.std.specs.Prelude.{ℕ, Bool, true, false, Option, Some, None, if◌then◌else◌}
 use Rattle.cyc_isa.specs.declared.instr.ImmediateOp.{ImmediateOp}
 use Rattle.cyc_isa.specs.declared.instr.ImmediateOp.TheVariants as immediate
@@ -39,7 +40,8 @@ abbrev pub immediate_plan : ImmediateOp → Operand → (half : ℕ) → Outcome
 immediate_plan op left half outcome =
     record { operation = operations.Immediate op half; left = left; right = operands.Word 0; outcome = outcome }
 
--- Returns the plan whose instruction has the given immediate, or the plan `other` if no immediate is given.
+-- Returns the plan (machine operation and operands) whose instruction has the given immediate, or the plan
+-- `other` if no immediate is given.
 abbrev pub immediate_or : Option ℕ → ImmediateOp → Operand → Outcome → Plan → Plan
 immediate_or (Some half) op left outcome other = immediate_plan op left half outcome
 immediate_or None op left outcome other = other
@@ -61,7 +63,7 @@ abbrev pub multiply_divide_plan : MultiplyDivideOp → MoveFromOp → (left righ
 multiply_divide_plan op from left right =
     record { operation = operations.MultiplyDivide op from; left = left; right = right; outcome = outcomes.AsItIs }
 
--- Returns the plan of a product: a shift if one factor is a power of two, otherwise a multiplication.
+-- Returns the plan (machine operation and operands) of a product: a shift if one factor is a power of two, otherwise a multiplication.
 abbrev pub product_or : Option ℕ → (left right : Operand) → Plan
 product_or (Some amount) left right = shift_by (Some amount) shift.Left left right
 product_or None left right = multiply_divide_plan Multiply Low left right
@@ -79,14 +81,14 @@ mirrored comparisons.Greater = comparisons.Less
 mirrored comparisons.GreaterOrEqual = comparisons.LessOrEqual
 mirrored comparison = comparison
 
--- Returns the plan that tests that a word is 0, or that it is not 0 if `holds` is false.
+-- Returns the plan (machine operation and operands) that tests that a word is 0, or that it is not 0 if `holds` is false.
 abbrev pub zero_plan : Operand → (holds : Bool) → Plan
 zero_plan operand holds =
     if holds
     then immediate_plan immediate.SetLessUnsigned operand 1 outcomes.AsItIs
     else arithmetic_plan arithmetic.SetLessUnsigned (operands.Word 0) operand outcomes.AsItIs
 
--- Returns the plan that tests two words for equality or difference: it tests their difference for 0.
+-- Returns the plan (machine operation and operands) that tests two words for equality or difference: it tests their difference for 0.
 abbrev pub differs_plan : (left right : Operand) → Outcome → Plan
 differs_plan left right outcome =
     immediate_or (negated_half right) immediate.AddUnsigned left outcome
@@ -98,7 +100,7 @@ equal_plan left right holds =
     then zero_plan left holds
     else differs_plan left right (if holds then outcomes.WhetherZero else outcomes.WhetherNotZero)
 
--- Returns the plan that tests that the left word is less than the right one, or that it is not less.
+-- Returns the plan (machine operation and operands) that tests if the left word is less than the right one, or if it is not less.
 abbrev pub less_plan : (left right : Operand) → Outcome → Plan
 less_plan left right outcome =
     immediate_or (signed_half right) immediate.SetLess left outcome
@@ -109,7 +111,8 @@ less_unsigned_plan left right outcome =
     immediate_or (signed_half right) immediate.SetLessUnsigned left outcome
     (arithmetic_plan arithmetic.SetLessUnsigned left right outcome)
 
--- Returns the plan that tests that the left word is at most the right one: it is less than the right word's successor.
+-- Returns the plan (machine operation and operands) that tests that the left word is at most the right one: it is less
+-- than the right word's successor.
 abbrev pub at_most_plan : (left right : Operand) → (holds : Bool) → Plan
 at_most_plan left right holds =
     immediate_or (next_half right) immediate.SetLess left (if holds then outcomes.AsItIs else outcomes.WhetherZero)
@@ -131,7 +134,7 @@ is_mirrored comparisons.LessUnsigned left = false
 is_mirrored comparisons.GreaterOrEqualUnsigned left = false
 is_mirrored comparison left = is_word left
 
--- Returns the plan of a comparison's truth value, 1 or 0.
+-- Returns the plan (machine operation and operands) of a comparison's truth value, 1 or 0.
 abbrev pub comparison_plan : Comparison → (left right : Operand) → Plan
 comparison_plan comparison left right =
     if is_mirrored comparison left
@@ -156,12 +159,13 @@ difference_plan left right =
     immediate_or (negated_half right) immediate.AddUnsigned left outcomes.AsItIs
     (arithmetic_plan arithmetic.SubtractUnsigned left right outcomes.AsItIs)
 
--- Returns the plan of a bitwise operation, on two registers or on a register and an immediate.
+-- Returns the plan (machine operation and operands) of a bitwise operation, on two registers or on a register and an immediate.
 abbrev pub bits_plan : ArithmeticOp → ImmediateOp → (left right : Operand) → Plan
 bits_plan op number_op left right =
     immediate_or (low_half right) number_op left outcomes.AsItIs (arithmetic_plan op left right outcomes.AsItIs)
 
--- Returns the plan of an operator. For a division, the machine must be able to divide every word by the divisor.
+-- Returns the plan (machine operation and operands) of an operator. For a division, the machine must be able to
+-- divide every word by the divisor.
 abbrev pub operator_plan : BinaryOperator → (left right : Operand) → Plan
 operator_plan binary.Add left right = sum_plan left right
 operator_plan binary.Subtract left right = difference_plan left right
@@ -189,7 +193,7 @@ is_swapped binary.Or left = is_word left
 is_swapped binary.Xor left = is_word left
 is_swapped operator left = false
 
--- Returns the plan of an operator on two operands.
+-- Returns the plan (machine operation and operands) of an operator on two operands.
 abbrev pub binary_plan : BinaryOperator → (left right : Operand) → Plan
 binary_plan operator left right =
     if is_swapped operator left then operator_plan operator right left else operator_plan operator left right

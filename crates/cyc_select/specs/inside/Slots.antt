@@ -146,13 +146,14 @@ restoring_code frame = if frame.saves then load RETURN_ADDRESS (4 * frame.return
 abbrev pub way_count : Frame → ℕ
 way_count frame = if frame.saves then 1 else 0
 
--- Returns the home in which a parameter arrives: its own, or memory if its register is callee-saved and still holds a word of the caller.
+-- Returns the home (register or memory) in which a parameter arrives: its own, or memory if its register is callee-saved and still holds
+-- the caller's word.
 abbrev pub coming_home : Home → Home
 coming_home homes.Memory = homes.Memory
 coming_home (homes.Both register) = if homing.is_preserved register then homes.Memory else homes.Both register
 coming_home (homes.Register register) = if homing.is_preserved register then homes.Memory else homes.Register register
 
--- Returns the frame as callers see it, with the homes in which parameters arrive.
+-- Returns the frame in which each parameter has the home (register or memory) in which callers pass it, instead of its own home.
 abbrev pub coming : Frame → Frame
 coming frame = record frame { homes = map coming_home frame.homes }
 
@@ -171,7 +172,8 @@ arrivals frame = reloads_from frame 0 (arriving frame)
 abbrev pub arrival_count : Frame → ℕ
 arrival_count frame = sum_by homing.saved_count (take frame.parameters frame.homes)
 
--- Returns the MIPS lines at a function's entry: they save registers, then load the parameters that belong in them.
+-- Returns the MIPS lines at a function's entry: they save registers, then load into registers the parameters that
+-- arrive in memory but have a register.
 abbrev pub saving_code : Frame → List Instr
 saving_code frame = way_code frame ++ (saves frame ++ arrivals frame)
 

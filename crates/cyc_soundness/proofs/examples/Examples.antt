@@ -30,7 +30,7 @@ abbrev Ends : Checked typed.Program → Status → Type 0
 Ends (Ok p) s = (flow_of p ≡ Ok tt) × (status_of (run p [] 200) ≡ s)
 Ends (Err f) s = ⊥
 
--- no run of an example is dead or wrong
+-- no run of an example program accesses freed memory or goes wrong
 pub never_dead : (texts : List (List ℕ)) (tree : List Declaration) (s : Status) → Ends (check_of texts tree) s
     → (p : typed.Program) × IsTypedProgram texts tree p × IsSound p × (status_of (run p [] 200) ≡ s)
 never_dead texts tree s ends = go (check_of texts tree) refl ends

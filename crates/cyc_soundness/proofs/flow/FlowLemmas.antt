@@ -1,4 +1,5 @@
--- This file is about the flow states of locals: when one state implies another, and facts of a state that the flow rules only weaken.
+-- This file is about the flow states of locals: when one flow state implies another, and facts of a flow state that the flow rules
+-- can only weaken.
 use Rattle.std.proofs.Common.{◌≡◌, ℕ, zero, suc, Bool, true, false, not, List, [], ◌∷◌, ◌++◌, refl, sym, ap, subst, ◌∙◌}
 use Rattle.std.specs.Prelude.{◌≢◌, get_or, slice_set, if◌then◌else◌}
 use Rattle.std.proofs.lemmas.List.{get_or-set_other}

@@ -145,7 +145,7 @@ ends_so w c s a b fresh flows reached = go (may_end s) refl
 -- ---- locks
 
 module _ (n : ℕ) where
-  -- Says that the local is lent in this flow state, if the state is reachable.
+  -- Says that the local is lent (its value is borrowed for the length of a block) in this flow state, if the state is reachable.
   abbrev pub IsLockedIn : flow.State → Type 0
   IsLockedIn f = (is_reached f ≡ true) × (is_locked (fullness f n) ≡ true)
 
@@ -327,8 +327,8 @@ module _ (n : ℕ) where
 
     -- ---- statements
 
-    -- The requirements that reachable code satisfies while a local is lent, and the flow states after the code
-    -- and at the breaks that leave the enclosing loop.
+    -- The requirements on reachable code while a local is lent, with the flow states after the code and at
+    -- each `break` that leaves the loop.
     record Locks (A : Type 0) (end : Bool) (c : Around) (a b : Known) : Type 0 where
       kept : A
       now : IsLockedIf b.now
@@ -351,8 +351,8 @@ module _ (n : ℕ) where
         go true same = (each_still (locks_of js) l.now (out same) (there, locked there)).1
         go false same = let k : true ≡ false = sym there ∙ never_items w c js a l fresh flows same in absurd (cc)
 
-    -- The requirements that the catch clauses of a `try` satisfy while a local is lent, with the flow states after the clauses
-    -- and at their breaks.
+    -- The requirements on the catch clauses of a `try` while a local is lent, with the flow states after them and at their
+    -- `break` statements.
     record LocksClauses (k : ℕ) (c : Around) (cs : Clauses) (a b : Known) : Type 0 where
       kept : InClauses locking k cs
       now : IsLockedIf b.now

@@ -1,5 +1,4 @@
--- If an access has read a local without moving its value (a peek), then the local does not change until the
--- read value is used: no expression that is evaluated before the use moves the local.
+-- If an access has read a local without moving its value (a peek), then no expression moves the local before the read value is used.
 use Rattle.std.proofs.Common.{◌≡◌, ◌≢◌, ℕ, zero, suc, true, false, not, List, [], ◌∷◌, ◌++◌, Option, Some, None, refl, sym, ap, ◌∙◌, eqb}
 use Rattle.std.specs.Prelude.{get_or, nat_eq}
 use Rattle.std.specs.List.{list_any}

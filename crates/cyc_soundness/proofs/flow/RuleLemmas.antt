@@ -1,4 +1,4 @@
--- The flow rules only lower the state at breaks, and the state after a `try`.
+-- The flow rules can only weaken the flow state at the `break` statements of a loop, and the flow state after a `try`.
 use Rattle.std.proofs.Common.{◌≡◌, [], ◌++◌, sym, subst, append-nil}
 use Rattle.cyc_types.specs.TypedTrees.{Statement, Block, Empty, Evaluate, Swap, If, While, Return, Break, Continue, Throw, Try, Items, NoItems, MoreItems, Item, Execute, Declare, DeclareRegion, OpenRegion, DeclareAlias, DeclareKey, Clauses, NoClauses, Default, Case}
 use Rattle.cyc_types.specs.Rules.{Derives}
@@ -45,7 +45,7 @@ mutual
   breaks_clauses c start (Case x n r js cs) k m (l, d, later) =
       implies_after k.breaks l.breaks m.breaks (breaks_items c js (statements.at (with_caught n start) k) l d) (breaks_clauses c start cs (or_clause k.now js l) m later)
 
--- The flow state after a `try` is at most the state after its body.
+-- The flow state after a `try` has at most the facts of the state after its body.
 pub clauses_implied : (c : Around) (start : State) (cs : Clauses) (k m : Known) → Derives (rule_clauses c start cs k) m → Implies k.now m.now
 clauses_implied c start NoClauses k m (u, e) = subst (λ (z : Known). Implies k.now z.now) (sym e) (implies_self k.now)
 clauses_implied c start (Default r js) k m (l, d, (u, e)) =
@@ -54,6 +54,6 @@ clauses_implied c start (Case x n r js cs) k m (l, d, later) =
     implies_after k.now (meet k.now (with_each Full (locks_of js) l.now)) m.now (meet_first k.now (with_each Full (locks_of js) l.now))
     (clauses_implied c start cs (or_clause k.now js l) m later)
 
--- A declaration or statement that locks no local does not change the context of the flow rules.
+-- A declaration or statement that locks no local leaves the list of locked locals unchanged, so a derivation by the flow rules stays valid.
 pub nothing_locked : (c : Around) (js : Items) (k m : Known) → Derives (rule_items (record c { locks = c.locks ++ [] }) js k) m → Derives (rule_items c js k) m
 nothing_locked c js k m d = subst (λ ns. Derives (rule_items (record c { locks = ns }) js k) m) (append-nil c.locks) d

@@ -1,5 +1,5 @@
--- The body of a `try` touches no local on which the catch clauses rely. The flow state at the start of the clauses omits all locals
--- that the body touches.
+-- The body of a `try` touches (consumes, lends or assigns) no local that the catch clauses require to hold a value. The flow state
+-- at the start of the catch clauses omits all locals that the body touches (consumes, lends or assigns).
 use Rattle.std.proofs.Common.{◌≡◌, ℕ, zero, suc, ◌+◌, Bool, true, false, List, [], ◌∷◌, ◌++◌, Option, Some, None, refl}
 use Rattle.std.specs.Prelude.{get_or, slice_set, if◌then◌else◌}
 use Rattle.cyc_types.specs.TypedTrees.{Local, Global, Expression, Number, NullPointer, HeapRegion, Counter, Copy, Move, Peek, Load, AddressOf, AddressOfCell, NumberOfElements, FreeUnique, FreeKey, Call, Unary, Binary}
@@ -151,7 +151,7 @@ asked_too true to is = to is
 
 -- ---- the state at the start of the clauses of a `try`
 
--- Says that a flow state does not rely on any of these locals.
+-- Says that a flow state does not require any of these locals to hold a value.
 abbrev AreSpared : flow.State → List ℕ → Type 0
 AreSpared f ns = (n : ℕ) → IsAmong n ns → IsSparedBy f n
 
@@ -321,6 +321,6 @@ emptied_spares (n ∷ ns) f m (first as') = emptied_still ns (if is_locked (full
 emptied_spares (n ∷ ns) f m (later b as' is) = emptied_spares ns (if is_locked (fullness f n) then f else with_fullness Vacant f n) m is
 emptied_spares [] f m is = elim is [ ]
 
--- The body of a `try` touches no local on which the catch clauses of the `try` rely.
+-- The body of a `try` touches (consumes, lends or assigns) no local that the catch clauses of the `try` require to hold a value.
 pub relied_body : (q : Relied) (k : ℕ) (s : Statement) (f : flow.State) → InStatement q k s → InStatement (emptied (touched_statement s []) f ∷ q) k s
 relied_body q k s f kept = relied_statement q (emptied (touched_statement s []) f) k s [] (emptied_spares (touched_statement s []) f) kept

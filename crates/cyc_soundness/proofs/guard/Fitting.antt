@@ -1,5 +1,5 @@
--- This file defines the match of a flow state with a guard: exactly the guard's locked locals are locked, and all locals on which it relies
--- hold values. In unreachable code (`never`), nothing more is known.
+-- This file defines when a flow state matches a guard (sets of locked, relied-on and peeked locals). Exactly the guard's locked locals are
+-- locked, and all locals on which it relies hold values. In unreachable code (`never`), nothing more is known.
 use Rattle.std.proofs.Common.{◌≡◌, ◌⊎◌, ℕ, Bool, true, false, cond, not, ◌||◌, nat_eq, List, [], ◌∷◌, ◌++◌, Option, Some, None, get_or, slice_set, inl, inr, refl, sym, ap, subst, ◌∙◌}
 use Rattle.std.proofs.lemmas.Bool.{not-true, not_from_false}
 use Rattle.cyc_words.proofs.Booleans.{or_false_right, or_true_right, or_assoc, false_from_false}
@@ -19,7 +19,7 @@ Fits p true f = f ≡ Unreached
 Fits p false Unreached = Unit {0}
 Fits p false (Reached as') = FitsEach p as'
 
--- Says that every touched local on which the guard relies is locked.
+-- Says that every touched local (one that code consumes, lends or assigns) is locked if the guard relies on its value.
 abbrev pub Rests : Guard → (touched : List ℕ) → Type 0
 Rests p ns = (n : ℕ) → p.relied n ≡ true → has ns n ≡ true → p.locked n ≡ true
 
@@ -49,19 +49,21 @@ not_locked p as' n h k = sym (h n).0 ∙ not-true (is_locked (get_or as' n Vacan
 pub not_relied : (p : Guard) (n : ℕ) (ns : List ℕ) → Rests p ns → has ns n ≡ true → p.locked n ≡ false → p.relied n ≡ false
 not_relied p n ns r h k = false_from_false (p.relied n) (p.locked n) (λ s. r n s h) k
 
--- Storing a value in an unlocked local preserves the match with the guard.
+-- Storing a value in an unlocked local preserves the match of the flow state with the guard (sets of locked, relied-on and peeked locals).
 pub filled_fits : (p : Guard) (e : Bool) (f : State) (n : ℕ) → Fits p e f → p.locked n ≡ false → Fits p e (with_fullness Full f n)
 filled_fits p true f n h k = ap (λ x. with_fullness Full x n) h
 filled_fits p false Unreached n h k = tt
 filled_fits p false (Reached as') n h k = fits_set p as' n Full h (full_fits p n k)
 
--- Emptying an unlocked local on which nothing relies preserves the match with the guard.
+-- Emptying an unlocked local on which nothing relies preserves the match of the flow state with the
+-- guard (sets of locked, relied-on and peeked locals).
 pub vacated_fits : (p : Guard) (e : Bool) (f : State) (n : ℕ) → Fits p e f → p.locked n ≡ false → p.relied n ≡ false → Fits p e (with_fullness Vacant f n)
 vacated_fits p true f n h k l = ap (λ x. with_fullness Vacant x n) h
 vacated_fits p false Unreached n h k l = tt
 vacated_fits p false (Reached as') n h k l = fits_set p as' n Vacant h (vacant_fits p n k l)
 
--- Emptying a touched local preserves the match with the guard if the rules require that the local is unlocked.
+-- If the rules require that a touched (consumed, lent or assigned) local is unlocked, emptying it preserves
+-- the flow state's match with the guard.
 pub moved_out : (p : Guard) (e : Bool) (f : State) (n : ℕ) (ns : List ℕ) → Fits p e f → Rests p ns → has ns n ≡ true → not (is_locked (fullness f n)) ≡ true → Fits p e (with_fullness Vacant f n)
 moved_out p true f n ns h r m k = ap (λ x. with_fullness Vacant x n) h
 moved_out p false Unreached n ns h r m k = tt
@@ -106,7 +108,7 @@ emptied_fits p false ts (Reached as') h r =
 
 -- ---- inner guards
 
--- Says that the inner guard locks the listed locals in addition to the locals that the outer guard locks.
+-- Says that the inner guard locks the locals of the given list in addition to the locals that the outer guard locks.
 abbrev pub LeavesAt : (listed : Bool) → (inner outer : Guard) → ℕ → Type 0
 LeavesAt b p o n = (p.locked n ≡ (o.locked n || b)) × (b ≡ true → o.locked n ≡ false) × (o.relied n ≡ true → p.relied n ≡ true)
 
@@ -140,7 +142,7 @@ locked_full Vacant h = absurd (cc)
 locked_full Locked h = refl
 locked_full Full h = refl
 
--- The listed locals are locked in the flow state of the inner guard.
+-- The locals of the given list, which the inner guard locks, are locked in the flow state of the inner guard.
 module _ (ls : List ℕ) (p o : Guard) (as' : List Fullness) (x : (n : ℕ) → LeavesAt (has ls n) p o n) (h : FitsEach p as') where
   listed_full : (n : ℕ) → has ls n ≡ true → is_vacant (get_or as' n Vacant) ≡ false
   listed_full n l =
@@ -162,7 +164,7 @@ module _ (ls : List ℕ) (p o : Guard) (as' : List Fullness) (x : (n : ℕ) → 
       go true l k = not_from_false (is_vacant (get_or as' n Vacant)) (listed_full n l)
       go false l k = subst (λ a. not (is_vacant a) ≡ true) (rest n l) k
 
--- When the loans of the listed locals end, these locals are full again: they hold values that are not lent.
+-- When the loans of the given locals end, these locals are full again: they hold values that are not lent.
 pub unlocked : (ls : List ℕ) (p : Guard) (e : Bool) (o : Guard) (d : Bool) (f : State) → Leaves ls p e o d → Fits p e f → Fits o d (with_each Full ls f)
 unlocked ls p true o d f x h = subst (Fits o d) (sym (ap (with_each Full ls) h ∙ refilled_never ls)) (fits_never o d)
 unlocked ls p false o true f x h = absurd x
@@ -179,7 +181,7 @@ still_known ls p false o false (Reached as') x h =
     let r : Refilled ls as' (with_each Full ls (Reached as')) = refilled_at ls as' in
     subst (λ g. IsAtLeast (Holds (is_full as')) (held_of g)) (sym r.is) (again_full ls p o as' x h r.left r.rest)
 
--- The end of loans adds no facts about which locals hold values.
+-- The end of the loans of locals adds no facts about which locals hold values.
 pub unlocked_at_least : (ls : List ℕ) (p : Guard) (e : Bool) (o : Guard) (d : Bool) (f : State) (g : Held) → Leaves ls p e o d → Fits p e f
     → IsAtLeast (held_of (with_each Full ls f)) g → IsAtLeast (held_of f) g
 unlocked_at_least ls p e o d f g x h k = at_least_trans (held_of f) (held_of (with_each Full ls f)) g (still_known ls p e o d f x h) k

@@ -1,5 +1,6 @@
--- The derivations of the flow rules preserve the match with a guard. Unreachable code stays unreachable. Locals stay locked, except
--- those whose block ends. Untouched locals keep their values.
+-- The derivations of the flow rules preserve the match of the flow state with a guard (sets of locked, relied-on and peeked
+-- locals). Unreachable code stays unreachable. Locals stay locked, except those whose locking block ends. Locals that code neither
+-- consumes, lends nor assigns keep their values.
 use Rattle.std.proofs.Common.{◌≡◌, ℕ, Bool, false, not, List, [], ◌∷◌, ◌++◌, Option, Some, None, sym, subst}
 use Rattle.std.proofs.lemmas.Bool.{and_parts}
 use Rattle.cyc_types.specs.Types.{ValueType, Void, Null, Value}
@@ -134,7 +135,7 @@ module _ (p : Guard) where
     before_clauses (Default c js) ns r = before_items js ns r
     before_clauses (Case e n c js cs) ns r = before_items js ns (before_clauses cs (touched_items js ns) r)
 
--- After a declaration or statement, the touched locals on which the guard relies are still locked.
+-- After a declaration or statement, those of its touched locals (consumed, lent or assigned) on which the guard relies are still locked.
 pub after_rests : (j : Item) (p : Guard) (ns : List ℕ) → Rests p ns → Rests (following_item j p) ns
 after_rests (Execute s) p ns r = r
 after_rests (Declare n t v) p ns r = r
@@ -230,15 +231,15 @@ module _ (p : Guard) (e : Bool) where
 
 -- ---- statements
 
--- Says that the current flow state and the flow state at the breaks so far both match their guards.
+-- Says that the current flow state and the joined flow state at the `break` statements so far both match their guards.
 abbrev pub BothFit : Guard → Bool → Guard → Bool → Known → Type 0
 BothFit p e o d k = Fits p e k.now × Fits o d k.breaks
 
--- Says that the flow states after a declaration or statement, and at its breaks, match their guards.
+-- Says that the flow states after a declaration or statement, and at its `break` statements, match their guards.
 abbrev pub ItemFits : Item → Guard → Bool → Guard → Bool → Known → Type 0
 ItemFits j p e o d l = (i : Bool) × Leaves (locked_by j) (following_item j p) i p e × Fits (following_item j p) i l.now × Fits o d l.breaks
 
--- The match of flow states with guards after block items (declarations and statements) that have locked the listed locals.
+-- The match of flow states with guards after block items (declarations and statements) that have locked the locals of the given list.
 pub record ItemsFit (ls : List ℕ) (p : Guard) (e : Bool) (o : Guard) (d : Bool) (l : Known) : Type 0 where
   pub inner : Guard
   pub never : Bool
@@ -336,7 +337,7 @@ mutual
 falls_to : (k l : Known) {m : Known} → l ≡ m → IsAtLeast (held_of k.breaks) (held_of m.breaks) → IsAtLeast (held_of k.breaks) (held_of l.breaks)
 falls_to k l eq h = subst (λ z. IsAtLeast (held_of k.breaks) (held_of z.breaks)) (sym eq) h
 
--- The flow state at the breaks after a statement is at most the state at the breaks before the statement.
+-- The joined flow state at the `break` statements seen after a statement has at most the facts of that seen before the statement.
 mutual
   pub falls : (c : Around) (s : Statement) (k l : Known) → Derives (rule_statement c s k) l → IsAtLeast (held_of k.breaks) (held_of l.breaks)
   falls c (Block b js) k l (m, x, (u, eq)) = falls_to k l eq (falls_items c js k m x)

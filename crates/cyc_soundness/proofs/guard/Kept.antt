@@ -1,5 +1,5 @@
--- This file proves that the derivations of the flow rules are guarded. Each flow state is read as the set of locals that hold values, and
--- can be chosen in the guarded form.
+-- This file proves that the derivations of the flow rules satisfy the guarded form of these rules. Each flow state is read as the set of
+-- locals that hold values, and can be chosen in the guarded form.
 use Rattle.std.proofs.Common.{◌≡◌, ℕ, Bool, true, false, cond, not, ◌&&◌, ◌||◌, nat_eq, List, [], ◌∷◌, ◌++◌, Option, Some, None, get_or, refl, sym, ap, subst, ◌∙◌}
 use Rattle.std.proofs.lemmas.Bool.{and_parts, not-true}
 use Rattle.cyc_words.proofs.Booleans.{or_false_right, or_true_right}
@@ -37,7 +37,7 @@ waits_more : (o : Option ℕ) (p : Guard) (q : List ℕ) → Waits p q → Waits
 waits_more None p q h = h
 waits_more (Some m) p q h = λ n. peek_added (nat_eq m n) (p.peeked n) (has q n) (h n) ∙ sym (has_append q (m ∷ []) n)
 
--- If a flow state has at least some facts, then every equal flow state has them too.
+-- If a flow state has at least the given facts, then every flow state that equals it has them too.
 moved_to : (f g : State) (h : Held) → f ≡ g → IsAtLeast (held_of f) h → IsAtLeast (held_of g) h
 moved_to f g h eq i = subst (λ x. IsAtLeast (held_of x) h) eq i
 
@@ -314,7 +314,7 @@ leaves_relying : (ls : List ℕ) (p o : Guard) (d : Bool) (r : ℕ → Bool) →
 leaves_relying ls p o true r h x = x
 leaves_relying ls p o false r h x = λ n. ((x n).0, (x n).1, λ s. h n ((x n).2 s))
 
--- The flow state after the catch clauses of a `try` is at most the state before the clauses.
+-- The flow state after the catch clauses of a `try` has at most the facts of the state before the clauses.
 clauses_fall : (c : Around) (start : State) (cs : Clauses) (k l : Known) → Derives (rule_clauses c start cs k) l → IsAtLeast (held_of k.now) (held_of l.now)
 clauses_fall c start NoClauses k l (u, eq) = subst (λ z. IsAtLeast (held_of k.now) (held_of z.now)) (sym eq) (at_least_same (held_of k.now))
 clauses_fall c start (Default b js) k l (m, x, (u, eq)) = subst (λ z. IsAtLeast (held_of k.now) (held_of z.now)) (sym eq) (meet_left k.now (with_each Full (locks_of js) m.now))

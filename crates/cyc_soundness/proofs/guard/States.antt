@@ -139,7 +139,7 @@ emptied_at_least (Reached as') n = λ m h. go m h (nat_eq n m) (reflects n m)
     go m h true (same e) = absurd (gone m e h)
     go m h false (other k) = subst (λ x. not (is_vacant x) ≡ true) (set_other as' n Vacant m k) h
 
--- Facts after a local that holds a value is lent and another local is declared.
+-- The flow facts after one local, which holds a value, is lent and another local is declared.
 pub lent_at_least : (f : State) (n m : ℕ) → not (is_vacant (fullness f m)) ≡ true → IsAtLeast (with_held true (held_of f) n) (held_of (with_fullness Full (with_fullness Locked f m) n))
 lent_at_least Unreached n m s = tt
 lent_at_least (Reached as') n m s = λ k h. outer k h (set_at (slice_set as' m Locked) n Full k)

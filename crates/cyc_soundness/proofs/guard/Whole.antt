@@ -1,4 +1,4 @@
--- All functions of a program that the flow rules accept are guarded.
+-- All functions of a program that the flow rules accept satisfy the guarded form of these rules.
 use Rattle.std.proofs.Common.{◌≡◌, ℕ, zero, suc, ◌<◌, true, false, not, nat_lt, List, [], ◌∷◌, ◌++◌, Option, Some, None, get_or, length, refl, sym, subst, arith}
 use Rattle.cyc_words.proofs.Numbers.{lt-nat_lt, nat_lt-true}
 use Rattle.cyc_types.specs.Types.{Ty}

@@ -1,4 +1,5 @@
--- This file is about the holders of resources at the beginning and end of a call or a loan, and about the holders of keys.
+-- This file is about the holders of resources (a holder is the operand, cell or loan that owns a key or unique pointer).
+-- The file treats holders at the beginning and end of a call or a loan, and the holders of keys.
 use Rattle.std.proofs.Common.{◌≡◌, ◌≢◌, ℕ, suc, ◌+◌, ◌≤◌, ◌<◌, true, List, [], ◌∷◌, ◌++◌, length, set, Some, slice_get, refl, sym, ap, subst, ◌∙◌, inl, inr, arith, length-append}
 use Rattle.std.specs.Prelude.{if◌then◌else◌}
 use Rattle.std.proofs.lemmas.Bool.{ltb-true, lt-ltb}
@@ -51,7 +52,7 @@ open_more g (Kept a) is = lent_more g.loans (g.own a) is
 open_more g (OfRegion number ns us) is = λ a e. lent_more g.loans (g.own a) (is a e)
 open_more g Owned is = tt
 
--- A swap that is not complete does not affect which lifetimes are open.
+-- A swap of which a write is still to come does not affect which lifetimes are open.
 pub pending_grows : (g : Typing) (q : Pending) → Grows g (record g { pending = q })
 pending_grows g q = record { objects = λ n u is. is; filled = λ n count is. is; fields = λ n ls ts is. is; kept = λ n is. is }
 
@@ -70,7 +71,7 @@ pub variables_pending : (g : Typing) (q : Pending) (bs : List InScope) → AreVa
 variables_pending g q [] are = tt
 variables_pending g q (b ∷ bs) (is, are) = (variable_pending g q b is, variables_pending g q bs are)
 
--- Facts about which variables hold their values do not affect which lifetimes are open.
+-- The record of which variables hold their values does not affect which lifetimes are open.
 open_marked : (g : Typing) (here : ℕ → Standing) (l : Life) → IsOpenIn g l → IsOpenIn (record g { here = here }) l
 open_marked g here (Kept region) is = is
 open_marked g here (OfRegion number ns us) is = is
@@ -97,7 +98,7 @@ pub variables_more : (g : Typing) (bs : List InScope) → AreVariables g bs → 
 variables_more g [] are = tt
 variables_more g (b ∷ bs) (is, are) = (variable_more g b is, variables_more g bs are)
 
--- The resource that was lent last is lent by the newest loan.
+-- The resource that was lent last is recorded as lent by the newest loan.
 pub lent_last : (n o : ℕ) → is_lent_by (suc n) (Lent n o) ≡ true
 lent_last n o = lt-ltb n (suc n) (let less : n < suc n = omega arith in less)
 
@@ -131,7 +132,7 @@ closed_by_key g regions objects number i r among has typed =
       | inr other ↦ subst (λ z. IsDynamic z) (sym (slice_get-set_other regions number n r other)) ((now.kept n among).1 held)
     ]
 
--- The typing with one more dynamic region; the holder of the region's key is given.
+-- The typing of the heap state with one more dynamic region; the holder (operand, cell or loan) that owns the region's key is given.
 abbrev pub with_kept : Typing → ℕ → Holder → Typing
 with_kept g number holder = record g { kept = number ∷ g.kept; own = given (Some (KeyOf number)) holder g.own }
 

@@ -56,7 +56,7 @@ open_object g regions object (OfRegion number around lent) common opens = opens
 open_object g regions object (Kept a) common opens = opens
 open_object g regions object Owned common opens = absurd common
 
--- A resource that a peek has read from a local, or that an operand holds, has a holder.
+-- A resource (key or unique pointer) that a peek has read from a local, or that an operand holds, has a holder that owns it.
 pub part_had : (g : Typing) (i : ℕ) (peek : Option ℕ) (o : Option Thing) → ClaimsPart g i peek o → IsHad g o
 part_had g i None None is = tt
 part_had g i (Some n) None is = tt
@@ -107,7 +107,7 @@ module _ (g : Typing) (w : World) (typed : IsTyped g w.regions w.objects) where
   common_there k object y (OfRegion number around lent) there opens outlasts lasting had = life_by k object y (OfRegion number around lent) there opens outlasts lasting
   common_there k object y (Kept a) there opens outlasts lasting had = life_by k object y (Kept a) there opens outlasts lasting
 
-  -- A unique object is live as long as its pointer has a holder, even while the object is lent.
+  -- A unique object is live as long as some operand, cell or loan owns its pointer, even while the object is lent.
   lent_there : (ns : List ℕ) (object : ℕ) (l m : Life) → l ≡ Kept (PointerTo object) → Outlasts l m → IsPresent g ns m → IsHad g (pointer_at m object) → IsHeld (g.own (PointerTo object))
   lent_there ns object l m same (alike _) lasting had = lent_held g.loans (g.own (PointerTo object)) (subst (λ z. IsPresent g ns z) same lasting).1
   lent_there ns object l m same (for_ever _) lasting had = let z : heap_life ≡ Kept (PointerTo object) = same in absurd (cc)
@@ -160,7 +160,7 @@ keyless_at [] i t are found = absurd (let k : None ≡ Some t = found in cc)
 keyless_at (u ∷ ts) zero t (is, are) found = subst (λ z. IsKeyless z) (same_Some u t found) is
 keyless_at (u ∷ ts) (suc i) t (is, are) found = keyless_at ts i t are found
 
--- a value that is neither a key nor a unique pointer claims no resource
+-- a value that is neither a key nor a unique pointer represents no resource that needs a single owner
 pub plain_claims : (own : Thing → Holder) (h : Holder) (t : RunTy) (v : values.Value) → IsPlain t → Claims own h t v
 plain_claims own h Int v is = (tt, tt)
 plain_claims own h Char v is = (tt, tt)
@@ -204,7 +204,7 @@ plain_unkept (Key (OfRegion number ns us)) plain = tt
 plain_unkept (Key Owned) plain = tt
 plain_unkept (Struct n ls) plain = tt
 
--- A type is plain if it contains no key and if it alone determines the resources that its values claim.
+-- A type is plain if it contains no key and if it alone determines the resources that its values represent.
 pub both_plain : (t : RunTy) → IsKeyless t → IsByType t → IsPlain t
 both_plain Int keyless by = tt
 both_plain Char keyless by = tt
@@ -222,7 +222,7 @@ shared_claims g w number offset y t typed there shown at by h v = let (x, m, sta
 -- ---- reads and writes
 
 module _ (p : Program) (g : Typing) (x : Exits) (bs : List InScope) (e : Environment) (w : World) (typed : IsTyped g w.regions w.objects) (globals : KnowsProgram g p) (bound : IsBound e.locals e.counters bs) (variables : AreVariables g bs) where
-  -- The content of a cell that a step reads.
+  -- The value stored in a cell that a step reads.
   pub record Content (kind : Kind) (number offset : ℕ) (t : RunTy) : Type 0 where
     pub value : values.Value
     pub has : HasType g t value
@@ -252,7 +252,7 @@ module _ (p : Program) (g : Typing) (x : Exits) (bs : List InScope) (e : Environ
             ∙ ap (λ o. read kind o k e w) content;
       }
 
-  -- Reading a cell yields a typed state.
+  -- Reading a cell in a well-typed run state yields a well-typed run state.
   pub reads : (k : List Entry) (kind : Kind) (number offset : ℕ) (t : RunTy) (y : ObjectType) (f : flow.State) → LiveIn k bs → Holds g f bs
       → slice_get g.objects number ≡ Some y → slice_get y.cells offset ≡ Some t → IsOpenObject g w.regions number y.life → IsFilled g number (suc offset) → kind_at t ≡ kind
       → (r : RunValue) → ((v : values.Value) → HasType g t v → IsResult g r (record { kind = kind; value = v })) → ((c : Content kind number offset t) → ClaimsBy g (operands_in k) r c.value) → IsStack p g x bs (Val r f) k
@@ -261,7 +261,7 @@ module _ (p : Program) (g : Typing) (x : Exits) (bs : List InScope) (e : Environ
       let c = content_of kind number offset t y at cells opens filled same in
       subst (λ s. IsWell p s) (sym (c.loads k e)) (running p g x bs e w typed globals bound variables (Given (record { kind = kind; value = c.value })) k live (r, f, holds, fits c.value c.has, comes c, stack))
 
-  -- Writing a cell of a known object yields a typed state, whose typing has grown.
+  -- Writing a cell of a known object yields a well-typed run state; the facts about objects in its typing have grown.
   module _ (v : Operand) (focus : Focus) (k : List Entry) (number offset m : ℕ) (t : RunTy) (y : ObjectType) (here : ℕ → Standing) where
     abbrev pub written_typing : Typing
     written_typing = record (with_filled g number (risen offset m)) { here = here }
@@ -297,7 +297,7 @@ module _ (p : Program) (g : Typing) (x : Exits) (bs : List InScope) (e : Environ
         (cell_written g w number offset y t v.value typed at cells c few_too is.1 g.own here g.pending (λ a held. held) (λ a none. none) (λ object i hidden apart kept a has. has) (λ object i hidden apart kept. before object i hidden apart kept) (λ i u found apart kept. beside i u found apart kept) (λ kept. claims kept) free lasts (λ object j a has. has))
         (globals_grown g h (record { objects = grows.objects; filled = grows.filled; fields = grows.fields; kept = grows.kept }) p (λ n ls. refl) globals) bound (variables_grown (record g { here = here }) h changed bs (variables_marked g here bs variables)) focus k live (goes_on changed now)))
 
-  -- Reading the target of a pointer yields a typed state.
+  -- Reading the target of a pointer in a well-typed run state yields a well-typed run state.
   pub reads_target : (k : List Entry) (kind : Kind) (object offset : ℕ) (n : Lives) (t : Ty) (l : Life) (f : flow.State) → AreOpen w.regions (ends_of k) → LiveIn k bs → IsPresent g (ends_of k) l → IsHad g (pointer_at l object) → Holds g f bs
       → IsTarget g (at n t) l object offset → IsByType (at n t) → is_struct t ≡ false → kind_at (at n t) ≡ kind → IsStack p g x bs (Val (Value (at n t)) f) k
       → IsWell p (loaded kind (cell_at w object offset) k e w)
@@ -309,7 +309,7 @@ module _ (p : Program) (g : Typing) (x : Exits) (bs : List InScope) (e : Environ
 
 -- ---- storing an operand's value
 
--- The relation `Changed` holds from a typing if it holds from the same typing with its field `here` written out.
+-- If the relation `Changed` holds from a typing whose record field `here` is restated with its own value, then it holds from that typing.
 changed_from : (old : Holder) (g h : Typing) → Changed old (record g { here = g.here }) h → Changed old g h
 changed_from old g h changed = record {
   grows = record { objects = changed.grows.objects; filled = changed.grows.filled; fields = changed.grows.fields; kept = changed.grows.kept };
@@ -321,7 +321,7 @@ changed_from old g h changed = record {
   loans = changed.loans;
 }
 
--- A resource that had a holder still has a holder after a transfer.
+-- A resource (key or unique pointer) that some operand, cell or loan owned is still owned by one after a transfer.
 pub held_still : (own : Thing → Holder) (o : Option Thing) (new : Holder) (a : Thing) → IsHeld new → IsHeld (own a) → IsHeld (given o new own a)
 held_still own None new a now held = held
 held_still own (Some b) new a now held = go (same_thing a b)
@@ -336,7 +336,7 @@ open_still g o new regions object (Kept a) now opens = opens
 open_still g o new regions object Owned now held = held_still g.own o new (PointerTo object) now held
 
 module _ (p : Program) (g : Typing) (x : Exits) (bs : List InScope) (e : Environment) (w : World) (typed : IsTyped g w.regions w.objects) (globals : KnowsProgram g p) (bound : IsBound e.locals e.counters bs) (variables : AreVariables g bs) where
-  -- A value moves from an operand into a cell.
+  -- A value, with the resource that it represents, moves from an operand on the stack into a cell.
   module _ (v : Operand) (focus : Focus) (k : List Entry) (number offset m i : ℕ) (t : RunTy) (y : ObjectType) (here : ℕ → Standing) where
     abbrev pub stored_given : Typing
     stored_given = giving g (thing_of t v.value) (At number offset)
@@ -367,7 +367,7 @@ module _ (p : Program) (g : Typing) (x : Exits) (bs : List InScope) (e : Environ
       stores_marking v focus k number offset m i t y g.here live at cells opens flag few is claims (λ object j hidden apart kept. kept) (λ j u found apart kept. kept)
       (λ hides. let z : true ≡ false = sym hides ∙ shown in absurd (cc)) (λ object j apart now. now) (λ changed now. goes (changed_from (Hand i) g (stored_typing v focus k number offset m i t y g.here) changed) now)
 
-  -- Writing the cell to which a pointer points yields a typed state.
+  -- Writing the cell to which a pointer points yields a well-typed run state.
   pub writes_target : (v : Operand) (k : List Entry) (object offset i : ℕ) (t : RunTy) (l : Life) (focus : Focus) → AreOpen w.regions (ends_of k) → LiveIn k bs → IsPresent g (ends_of k) l → IsHad g (pointer_at l object)
       → IsTarget g t l object offset → IsResult g (Value t) v → Claims g.own (Hand i) t v.value → ((h : Typing) → Changed (Hand i) g h → IsFocus p h x bs focus k)
       → IsWell p (stored (cell_at w object offset) object offset v focus k e w)

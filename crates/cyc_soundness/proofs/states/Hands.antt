@@ -1,5 +1,5 @@
--- This file is about resources that change holders: keys, and pointers to unique objects. All resources that the step does not move keep
--- their holders, so typed parts of the run state stay typed.
+-- This file is about resources (keys, and pointers to unique objects) that change holders (the operand, cell or loan that owns them).
+-- All resources that the step does not move keep their holders, so the well-typed parts of the run state stay well-typed.
 use Rattle.std.proofs.Common.{◌≡◌, ◌≢◌, ℕ, Bool, true, false, List, [], ◌∷◌, set, Option, Some, None, slice_get, refl, sym, ap, subst, ◌∙◌, inl, inr, eqb}
 use Rattle.std.specs.Prelude.{if◌then◌else◌, ◌==◌}
 use Rattle.std.proofs.lemmas.Bool.{eqb-true, eq-eqb, false_from_ne_true}
@@ -28,7 +28,7 @@ the_same (PointerTo m) (PointerTo n) e = ap (λ i. PointerTo i) (eqb-true m n e)
 the_same (KeyOf m) (PointerTo n) e = absurd (let k : false ≡ true = e in cc)
 the_same (PointerTo m) (KeyOf n) e = absurd (let k : false ≡ true = e in cc)
 
--- A resource that is transferred belongs to its new holder.
+-- After a transfer, the new holder (operand, cell or loan) owns the transferred resource.
 pub given_now : (own : Thing → Holder) (o : Option Thing) (h : Holder) → Owns (given o h own) h o
 given_now own None h = tt
 given_now own (Some a) h = ap (λ (z : Bool). if z then h else own a) (thing_is_itself a)
@@ -37,12 +37,12 @@ by_test : {A : Type 0} (b : Bool) (x y z : A) → (b ≡ true → y ≡ z) → (
 by_test true x y z one two = one refl
 by_test false x y z one two = two refl
 
--- Every resource that is not transferred keeps its holder.
+-- Every resource that is not transferred is still owned by the same operand, cell or loan.
 pub given_other : (own : Thing → Holder) (o : Option Thing) (old new : Holder) (a : Thing) → Owns own old o → own a ≢ old → given o new own a ≡ own a
 given_other own None old new a has apart = refl
 given_other own (Some b) old new a has apart = by_test (same_thing a b) (own a) new (own a) (λ e. absurd (apart (ap own (the_same a b e) ∙ has))) (λ e. refl)
 
--- A resource that has a holder after the transfer also had a holder before it.
+-- A resource that an operand, cell or loan owns after the transfer was also owned by one before it.
 pub held_before : (own : Thing → Holder) (o : Option Thing) (old new : Holder) (a : Thing) → Owns own old o → IsHeld old → IsHeld (given o new own a) → IsHeld (own a)
 held_before own None old new a has held now = now
 held_before own (Some b) old new a has held now = go (same_thing a b) refl now
@@ -51,19 +51,19 @@ held_before own (Some b) old new a has held now = go (same_thing a b) refl now
     go true e now = subst (λ h. IsHeld h) (sym (ap own (the_same a b e) ∙ has)) held
     go false e now = now
 
--- After a transfer, the new holder still has the resources that it had before.
+-- After a transfer, the new holder (operand, cell or loan) still owns the resources that it owned before.
 pub given_too : (own : Thing → Holder) (o q : Option Thing) (h : Holder) → Owns own h q → Owns (given o h own) h q
 given_too own o None h has = tt
 given_too own None (Some b) h has = has
 given_too own (Some a) (Some b) h has = by_test (same_thing b a) (own b) h h (λ e. refl) (λ e. has)
 
--- Resources that have different holders are different.
+-- Resources that are owned by different holders (operands, cells or loans) are different.
 pub given_apart : (own now : Thing → Holder) (o q : Option Thing) (h k new : Holder) → Owns own h o → Owns own k q → h ≢ k → Owns now k o → Owns (given q new now) k o
 given_apart own now None q h k new has its apart is = tt
 given_apart own now (Some a) None h k new has its apart is = is
 given_apart own now (Some a) (Some b) h k new has its apart is = by_test (same_thing a b) (now a) new k (λ e. absurd (apart (sym has ∙ ap own (the_same a b e) ∙ its))) (λ e. is)
 
--- A resource without a holder has no holder after the transfer either.
+-- A resource that no operand, cell or loan owns has no owner after the transfer either.
 pub nobody_before : (own : Thing → Holder) (o : Option Thing) (old new : Holder) (a : Thing) → Owns own old o → IsHeld old → own a ≡ Nobody → given o new own a ≡ Nobody
 nobody_before own None old new a has held none = none
 nobody_before own (Some b) old new a has held none = by_test (same_thing a b) (own a) new Nobody (λ e. absurd (subst (λ h. IsHeld h) (sym has ∙ ap own (sym (the_same a b e)) ∙ none) held)) (λ e. none)
@@ -77,7 +77,7 @@ marked_other object b here n apart = other_number n object b (here n) apart
 pub marked_before : (object : ℕ) (b : Standing) (here : ℕ → Standing) (n : ℕ) (s : Standing) → n ≢ object → marked object b here n ≡ s → here n ≡ s
 marked_before object b here n s apart e = sym (marked_other object b here n apart) ∙ e
 
--- A variable that holds its value (standing `Here`) still has this standing after it receives a value.
+-- A variable that holds its value (state `Here`) is still in this state after it receives a value.
 pub marked_keeps : (object : ℕ) (here : ℕ → Standing) (n : ℕ) → here n ≡ Here → marked object Here here n ≡ Here
 marked_keeps object here n is = by_test (n == object) (here n) Here Here (λ e. refl) (λ e. is)
 
@@ -105,7 +105,7 @@ lent_no_hand i m j e = let k : Lent i m ≡ Hand j = e in absurd (cc)
 pub lent_not_at : (i m n o : ℕ) → Lent i m ≢ At n o
 lent_not_at i m n o e = let k : Lent i m ≡ At n o = e in absurd (cc)
 
--- A variable whose value is lent (standing `Away`) does not have the standing `Here` of a variable that holds its value.
+-- A variable whose value is lent (state `Away`) is not in the state `Here` of a variable that holds its value.
 pub away_not_here : (a : Standing) (j : ℕ) → a ≡ Away j → a ≡ Here → ⊥
 away_not_here a j away here = let k : Away j ≡ Here = sym away ∙ here in absurd (cc)
 
@@ -123,8 +123,8 @@ at_some m n e = let k : At m n ≡ Nobody = e in absurd (cc)
 
 -- ---- the change relation
 
--- The resources of one holder go to another holder. Nothing else changes, except that facts are added and that variables receive values,
--- unless they have lent theirs.
+-- All resources of one holder (operand, cell or loan) go to another holder. Nothing else changes, except that facts about objects are
+-- added and that variables receive values, unless they have lent theirs.
 pub record Changed (old : Holder) (g h : Typing) : Type 0 where
   pub grows : Grows g h
   pub own : (a : Thing) → g.own a ≢ old → h.own a ≡ g.own a
@@ -196,11 +196,11 @@ handing_changed g o old new object b has back from = record {
     away Gone back from n j hides is apart other = marked_other object Gone g.here n (apart_from n (from (λ e. let k : Gone ≡ Here = e in absurd (cc))) apart) ∙ is
     away (Away i) back from n j hides is apart other = marked_other object (Away i) g.here n (apart_from n (from (λ e. let k : Away i ≡ Here = e in absurd (cc))) apart) ∙ is
 
--- A variable loses the resource of its value to a new holder.
+-- A variable loses the resource that its value represents to a new holder (operand, cell or loan).
 pub gone_changed : (g : Typing) (o : Option Thing) (new : Holder) (object : ℕ) → Owns g.own (At object 0) o → Changed (At object 0) g (handing g o new object Gone)
 gone_changed g o new object has = handing_changed g o (At object 0) new object Gone has (λ e. let k : Gone ≡ Here = e in absurd (cc)) (λ other. refl)
 
--- A variable receives a value. This affects neither holders that have lent other resources nor a variable to which pointers may point.
+-- A variable receives a value. This affects neither loans of other resources nor a variable to which pointers may point.
 pub marked_changed : (g : Typing) (object : ℕ) → Changed (At object 0) g (record g { here = marked object Here g.here })
 marked_changed g object = record {
   grows = same_grows g g.own (marked object Here g.here);
@@ -290,11 +290,11 @@ module _ (old : Holder) (g h : Typing) (changed : Changed old g h) where
   one_kept (Instance these live) none is = λ n. (life_grown g h changed.grows (these n) (is n).0, λ e. open_kept (these n) none ((is n).1 e))
   one_kept b none is = tt
 
-  -- If all loans are preserved, then the variables in scope stay typed.
+  -- If all loans of locals are preserved, then the variables in scope stay well-typed.
   pub variables_kept : (bs : List InScope) → is_lent_by g.loans old ≡ false → AreVariables g bs → AreVariables h bs
   variables_kept [] none are = tt
   variables_kept (b ∷ bs) none (is, are) = (one_kept b none is, variables_kept bs none are)
 
-  -- Facts about locals stay true if none of these locals was the old holder of the resource.
+  -- Facts about locals stay true if none of these locals was the owner of the resource before its transfer.
   pub holds_kept : (f : flow.State) (bs : List InScope) → ((n object : ℕ) → IsFullIn f n → IsHere g g.depth n object → At object 0 ≢ old) → Holds g f bs → Holds h f bs
   holds_kept f bs other holds = holds_here g h changed.grows changed.depth f bs (λ n object full here. here_kept g.depth n object (other n object full here) here) holds

@@ -1,5 +1,5 @@
--- This file proves that a stack stays typed when a resource changes its holder, if no stack entry claims this
--- resource. A stack entry that awaits no value is only dropped.
+-- This file proves that a stack stays well-typed when a resource (key or unique pointer) changes its owner,
+-- if no stack entry claims this resource. A stack entry that awaits no value is only dropped.
 use Rattle.std.proofs.Common.{◌≡◌, ◌≢◌, inl, inr, ℕ, ◌≤◌, ◌<◌, ◌+◌, Bool, true, false, List, [], ◌∷◌, Option, Some, None, slice_get, refl, sym, ap, subst, ◌∙◌, arith}
 use Rattle.std.specs.Prelude.{if◌then◌else◌, suc, length, get_or}
 use Rattle.std.proofs.lemmas.Option.{same_Some}
@@ -29,7 +29,7 @@ use Rattle.cyc_soundness.proofs.states.Hands.{Changed, stays_changed, owns_kept,
 use Rattle.cyc_soundness.proofs.states.StackLemmas.{relied_if, IsAboveBy, IsAbove, above_by, hand_other, lent_other, looked_other, none_lent, operands_long, above_to, statement_spared, ends_relied}
 use Rattle.cyc_soundness.proofs.states.StackLemmas.{no_fewer, part_spared, waits_whole, place_whole, goes_relied, above_after, above_outside, relied_other, only_full, lender_other, outer_other, array_grown, full_at_grown}
 
--- The local, if any, from which a stored pointer operand was read early (peeked) and not yet used.
+-- The local, if any, from which a stored pointer operand was read early (peeked at), if the read value is not yet used.
 abbrev held_peek : Awaiting → Option ℕ
 held_peek (ApplyPointer peek operator left) = peek
 held_peek (StoreCell peek place) = peek
@@ -131,7 +131,7 @@ clauses_spared : (empties : Bool) (f : flow.State) (q : Relied) (n : ℕ) → Is
 clauses_spared false f q n spared = tt
 clauses_spared true f q n spared = spared.1
 
--- Facts about locals stay true if no local is emptied, or if the emptied locals are other locals.
+-- Facts about locals stay true if no local is emptied, or if the emptied locals are not the locals of these facts.
 holds_by : (empties : Bool) (old : Holder) (g h : Typing) (f : flow.State) (bs : List InScope) → (empties ≡ false → AreStill g h) → Changed old g h → (empties ≡ true → (n object : ℕ) → IsFullIn f n → IsHere g g.depth n object → At object 0 ≢ old) → Holds g f bs → Holds h f bs
 holds_by false old g h f bs still changed other holds = holds_here g h changed.grows changed.depth f bs (λ n object full here. (still refl object ∙ here.0, slot_kept old g h changed g.depth n object here.1)) holds
 holds_by true old g h f bs still changed other holds = holds_kept old g h changed f bs (other refl) holds
@@ -150,7 +150,7 @@ lent_still empties old g h x y k lent j t object still changed same above less (
     go true still above = changed.away object j (variable_type t l true (OfLocal g.depth lent), there, refl) away
         (lender_other x y g k lent old object same above (variable_type t l true (OfLocal g.depth lent), there, refl)) (lent_other true x g (EndLoan lent ∷ k) j object old above less)
 
--- A stack stays typed when a resource changes its holder, if no entry of the stack claims this resource.
+-- A stack stays well-typed when a resource (key or unique pointer) changes its owner, if no entry of the stack claims this resource.
 pub stack_by : (empties : Bool) (p : Program) (old : Holder) (g h : Typing) (x : Exits) (bs : List InScope) (w : Want) (k : List Entry) → (empties ≡ false → AreStill g h) → Changed old g h → IsAboveBy empties x g k old → IsStack p g x bs w k → IsStack p h x bs w k
 stack_by empties p old g h x bs Nothing [] still changed above is = changed.pending ∙ is
 stack_by empties p old g h x bs (Val r f) (Needs a ∷ k) still changed above (ts, cs, next, waits, are, rest) = (
@@ -236,7 +236,7 @@ stack_by empties p old g h x bs w k still changed above is = absurd is
 pub stack_changed : (p : Program) (old : Holder) (g h : Typing) (x : Exits) (bs : List InScope) (w : Want) (k : List Entry) → Changed old g h → IsAbove x g k old → IsStack p g x bs w k → IsStack p h x bs w k
 stack_changed p old g h x bs w k changed above is = stack_by true p old g h x bs w k (λ e. (let z : true ≡ false = e in absurd (cc))) changed (above_by x g k old above) is
 
--- A stack that is typed has no incomplete swap.
+-- While a stack is well-typed, no swap is between its two writes.
 pub settled : (p : Program) (g : Typing) (x : Exits) (bs : List InScope) (w : Want) (k : List Entry) → IsStack p g x bs w k → g.pending ≡ Settled
 settled p g x bs Nothing [] is = is
 settled p g x bs (Val r f) (Needs a ∷ k) (ts, cs, next, waits, are, rest) = settled p g x cs next k rest
@@ -254,7 +254,7 @@ settled p g x bs (Go f) (Caller e ∷ k) (y, cs, end, d, depth, loop, blocked, g
 settled p g x bs (Go f) (Main ∷ k) (loop, int, gives, blocked, rest) = settled p g x bs Nothing k rest
 settled p g x bs w k is = absurd is
 
--- A stack stays typed when the typing grows and no resource changes its holder.
+-- A stack stays well-typed when facts about objects are added and no resource (key or unique pointer) changes its owner.
 pub stack_grown : (p : Program) (g h : Typing) → Stays g h → (x : Exits) (bs : List InScope) (w : Want) (k : List Entry) → IsStack p g x bs w k → IsStack p h x bs w k
 stack_grown p g h same x bs w k is = stack_changed p Nobody g h x bs w k (stays_changed Nobody g h same) tt is
 

@@ -42,17 +42,17 @@ module _ (p : Program) (g h : Typing) (grows : Grows g h) where
 
 -- ---- transfer of a resource
 
--- The flow states on which stack entries rely, or none if no variable is emptied.
+-- The flow states that must stay true for stack entries to continue, or none if no variable is emptied.
 abbrev pub relied_if : (empties : Bool) → Relied → Relied
 relied_if false q = []
 relied_if true q = q
 
--- Says that no flow state relies on the value of this variable.
+-- Says that no flow state requires this variable to hold its value.
 abbrev IsLoose : (empties : Bool) → Exits → Typing → List Entry → (object : ℕ) → Type 0
 IsLoose empties x g k object = (d n : ℕ) × IsSlot g d n object × (((d ≡ g.depth) × IsSpared (relied_at (relied_if empties x.relied) k) n) ⊎ (g.depth < d))
 
--- Says that no entry of this stack claims a resource of this holder. The holder is a variable that is emptied, or a cell that is refilled
--- at once and to which pointers may point.
+-- Says that no entry of this stack claims a resource that this holder owns. The holder of the resource is a variable that is emptied, or
+-- a cell that is refilled at once and to which pointers may point.
 abbrev pub IsAboveBy : (empties : Bool) → Exits → Typing → List Entry → Holder → Type 0
 IsAboveBy empties x g k Nobody = Unit {0}
 IsAboveBy empties x g k (Hand i) = operands_in k ≤ i
@@ -92,7 +92,7 @@ lent_other empties x g k i object (Hand j) above less = lent_no_hand i object j
 lent_other empties x g k i object (At other offset) above less = lent_not_at i object other offset
 lent_other empties x g k i object (Lent j other) above less = λ e. (let same : i ≡ j = (lent_same i object j other e).0 in absurd (omega (arith, above, less, same)))
 
--- If a local differs from a local on whose value a flow state relies, then the variables of the two locals differ too.
+-- If a local differs from a local that a flow state requires to hold its value, then the variables of both locals differ too.
 slot_other : (g : Typing) (n object other : ℕ) → IsSlot g g.depth n object → (d m : ℕ) → IsSlot g d m other → (d ≡ g.depth → m ≡ n → ⊥) → At object 0 ≢ At other 0
 slot_other g n object other slot d m its apart e =
     let (depth, number) = slot_same g g.depth d n m other (subst (λ i. IsSlot g g.depth n i) (at_same object 0 other 0 e).0 slot) its in
@@ -125,7 +125,7 @@ looked_other empties x g k n object (At other (suc i)) above slot hidden relied 
 looked_other empties x g k n object (At other zero) (inl loose) slot hidden relied = loose_other empties x g k n object other loose slot relied
 looked_other empties x g k n object (At other zero) (inr (filling, shown)) slot hidden relied = hiding_other g object other hidden shown
 
--- If no entry of a stack claims the resources of a holder, then no current loan holds them.
+-- If no entry of a stack claims the resources of a holder (operand, cell or loan), then this holder is none of the current loans.
 pub none_lent : (empties : Bool) (x : Exits) (g : Typing) (k : List Entry) (old : Holder) → IsAboveBy empties x g k old → is_lent_by g.loans old ≡ false
 none_lent empties x g k Nobody above = refl
 none_lent empties x g k (Hand i) above = refl
@@ -141,7 +141,7 @@ operands_long g [] (v ∷ vs) are = absurd are
 operands_long g (t ∷ ts) [] are = absurd are
 operands_long g (t ∷ ts) (v ∷ vs) (is, are) = ap suc (operands_long g ts vs are)
 
--- The stored operands of a stack entry, and the resources that they claim.
+-- The operands stored in a stack entry have their types, and own the resources (keys and unique pointers) that their values represent.
 pub keeps_fields : (g : Typing) (i : ℕ) (owner : Owner) (before : List Operand) (rest : Arguments) (ts : List RunTy) → AreOperands g ts before → AreClaimed g.own i ts before → Keeps g i (MakeFields owner before rest) ts
 keeps_fields g i owner before rest [] are claims = are
 keeps_fields g i owner before rest (t ∷ ts) are claims = (are, claims)
@@ -158,14 +158,14 @@ pub passed_kept : (g : Typing) (i : ℕ) (callee : Callee) (before : List Operan
 passed_kept g i callee before rest [] are = (are, tt)
 passed_kept g i callee before rest (t ∷ ts) (are, claims) = (are, claims)
 
--- A value reaches a stack entry that stores no operands.
+-- A value is passed to a stack entry in which no operands are stored.
 pub comes_alone : (g : Typing) (k : List Entry) (r : RunValue) (v : values.Value) → ClaimsBy g (0 + operands_in k) r v → ClaimsBy g (operands_in k) r v
 comes_alone g k r v is = let same : 0 + operands_in k ≡ operands_in k = omega arith in subst (λ i. ClaimsBy g i r v) same is
 
 pub part_alone : (g : Typing) (k : List Entry) (peek : Option ℕ) (o : Option Thing) → ClaimsPart g (0 + operands_in k) peek o → ClaimsPart g (operands_in k) peek o
 part_alone g k peek o is = let same : 0 + operands_in k ≡ operands_in k = omega arith in subst (λ i. ClaimsPart g i peek o) same is
 
--- One more operand, and its claim, is added above the stored operands.
+-- One more operand, with the resource that its value represents, is added above the stored operands.
 pub claimed_next : (g : Typing) (i : ℕ) (t : RunTy) (v : values.Value) (ts : List RunTy) (vs : List Operand) → AreOperands g ts vs → Claims g.own (Hand (length vs + i)) t v → Claims g.own (Hand (i + length ts)) t v
 claimed_next g i t v ts vs are is =
     let long : length ts ≡ length vs = operands_long g ts vs are in
@@ -182,7 +182,7 @@ above_to empties x y g b k (At object zero) fewer less (inl (d, n, slot, inr dee
 above_to empties x y g b k (At object zero) fewer less (inr shown) = inr shown
 above_to empties x y g b k (Lent j object) fewer less above = above
 
--- At the end of a statement, every peek has been used.
+-- At the end of a statement, each value that was read early (peeked at) has been used.
 pub statement_relied : (p : Program) (g : Typing) (x : Exits) (bs : List InScope) (f : flow.State) (k : List Entry) (q : Relied) → IsStack p g x bs (Go f) k → relied_at q k ≡ q
 statement_relied p g x bs f [] q is = absurd is
 statement_relied p g x bs f (Needs a ∷ k) q is = absurd is
@@ -212,7 +212,7 @@ looked_less : (peek : Option ℕ) (q : Relied) (n : ℕ) → IsSpared (and_looke
 looked_less None q n spared = spared
 looked_less (Some m) q n spared = spared.1
 
--- After a part of an expression, the set of flow states on which entries rely does not grow.
+-- When the subexpression of an expression has been evaluated, no flow state is added to those on which stack entries rely.
 pub part_spared : (w : Part) (q r : Relied) (n : ℕ) → ((peek : Option ℕ) → w ≡ Whole peek → r ≡ q) → IsSpared (relied_by w q r) n → IsSpared r n
 part_spared (Whole peek) q r n same spared = subst (λ z. IsSpared z n) (sym (same peek refl)) (looked_less peek q n spared)
 part_spared (PartOf peek) q r n same spared = looked_less peek r n spared
@@ -220,7 +220,7 @@ part_spared (PartOf peek) q r n same spared = looked_less peek r n spared
 part_whole : {A : Type 0} (o peek : Option ℕ) → PartOf o ≡ Whole peek → A
 part_whole o peek e = let k : PartOf o ≡ Whole peek = e in absurd (cc)
 
--- A statement continues only after a complete expression, not after a part of it.
+-- A statement continues only after a complete expression, not after a subexpression.
 pub waits_whole : {p : Program} {x : Exits} {q : Relied} {bs cs : List InScope} {a : Awaiting} {ts : List RunTy} {r : RunValue} {f : flow.State} {next : Want} → Waits p x q bs a ts r f cs next → (peek : Option ℕ) → part a ≡ Whole peek → (h : flow.State) × (next ≡ Go h)
 waits_whole (awaited.converts c v t f agrees keeps conv from to target) peek e = part_whole None peek e
 waits_whole (awaited.negates f) peek e = part_whole None peek e
@@ -288,7 +288,7 @@ not_full : (f : flow.State) (n : ℕ) → is_reached f ≡ true → IsSparedBy f
 not_full Unreached n reached one = absurd (let k : false ≡ true = reached in cc)
 not_full (Reached as') n reached one = one
 
--- A variable on which the catch clauses of a `try` rely differs from the old holder of the resource.
+-- A variable that the catch clauses of a `try` require to hold its value is not the one that owned the resource before the transfer.
 pub relied_other : (x y : Exits) (g : Typing) (cs : Clauses) (k : List Entry) (f : flow.State) (old : Holder) (m object : ℕ) → x ≡ relying y f → is_reached f ≡ true → IsAboveBy true x g (Handler cs ∷ k) old → IsFullIn f m → IsSlot g g.depth m object → At object 0 ≢ old
 relied_other x y g cs k f old m object same reached above full slot = variable_other x g (Handler cs ∷ k) m object old above slot
     (λ spared. (let one : IsSparedBy f m = (subst (λ (z : Exits). IsSpared z.relied m) same spared).0 in let z : true ≡ false = sym full ∙ not_full f m reached one in absurd (cc)))
@@ -297,7 +297,7 @@ pub only_full : (n : ℕ) → get_or (only n) n Vacant ≡ Full
 only_full zero = refl
 only_full (suc n) = only_full n
 
--- A variable that has lent its value differs from the old holder of the resource.
+-- A variable that has lent its value is not the one that owned the resource before the transfer.
 pub lender_other : (x y : Exits) (g : Typing) (k : List Entry) (lent : ℕ) (old : Holder) (object : ℕ) → x ≡ lending y lent → IsAboveBy true x g (EndLoan lent ∷ k) old → IsSlot g g.depth lent object → At object 0 ≢ old
 lender_other x y g k lent old object same above slot = variable_other x g (EndLoan lent ∷ k) lent object old above slot
     (λ spared. (let one : is_full (get_or (only lent) lent Vacant) ≡ false = (subst (λ (z : Exits). IsSpared z.relied lent) same spared).0 in
@@ -314,7 +314,7 @@ outer_other x g caller k d (At other zero) m object same (inl (e, n, its, inr de
     (let (depth, number) = slot_same g d e m n other (subst (λ i. IsSlot g d m i) (at_same object 0 other 0 q).0 slot) its in absurd (omega (arith, depth, deeper, same)))
 outer_other x g caller k d (At other zero) m object same (inr (filling, shown)) slot = let z : true ≡ false = filling in absurd (cc)
 
--- A local that is not full differs from every full local.
+-- A local that is not full (holds no value, or a lent one) differs from every full local.
 pub emptied_other : (g : Typing) (a : flow.Fullness) (f : flow.State) (n m object other : ℕ) → is_full a ≡ false → is_reached f ≡ true → IsFullIn (with_fullness a f n) m → IsSlot g g.depth n object → IsSlot g g.depth m other → At other 0 ≢ At object 0
 emptied_other g a f n m object other empty reached full slot its e =
     let (depth, same) = slot_same g g.depth g.depth m n object (subst (λ i. IsSlot g g.depth m i) (at_same other 0 object 0 e).0 its) slot in

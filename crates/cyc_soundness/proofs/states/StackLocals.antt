@@ -85,7 +85,7 @@ pub among_set : {b : Bound} {bs : List InScope} (g : Typing) (f : flow.State) �
 among_set g f (first cs) (is, are) s = is.0 s
 among_set g f (later c cs among) (is, are) s = among_set g f among are s
 
--- A full local holds the resource that its value claims.
+-- A full local (one whose value is not lent) holds the resource that its value represents.
 pub among_own : {b : Bound} {bs : List InScope} (g : Typing) (f : flow.State) → IsAmong (Variable b) bs → AreSet g f bs → IsFullIn f b.number → IsHere g g.depth b.number b.object
 among_own g f (first cs) (is, are) s = is.1 s
 among_own g f (later c cs among) (is, are) s = among_own g f among are s
@@ -234,7 +234,7 @@ globals_among (CloseRegion region home ∷ k) = later region (ends_of k) (global
 globals_among (CloseLexical region ∷ k) = later region (ends_of k) (globals_among k)
 globals_among (entry ∷ k) = globals_among k
 
--- The heap is not one of the regions that stack entries close.
+-- The heap is not one of the regions that are closed when the control stack is unwound.
 pub above_globals : (bound : ℕ) (k : List Entry) → nesting.AreBelow bound (ends_of k) → globals_number < bound
 above_globals bound [] (less, are) = less
 above_globals bound (CloseRegion region home ∷ k) (less, are) = let past : globals_number < region = above_globals region k are in omega (arith, less, past)
@@ -247,14 +247,14 @@ lexical_not_heap region k e w nests same = let past : globals_number < region = 
 pub not_heap : (region home : ℕ) (k : List Entry) (e : Environment) (w : World) → IsNested (CloseRegion region home ∷ k) e w → heap_number ≢ region
 not_heap region home k e w nests same = let past : globals_number < region = above_globals region k nests.1.1 in absurd (omega (arith, past, same))
 
--- The region that contains the variables is the region of the innermost open block.
+-- The region in which new variables are stored is the region of the innermost open block.
 pub home_is : (home : ℕ) (k : List Entry) → IsHome home k → home ≡ home_in k
 home_is home [] is = is
 home_is home (CloseRegion region outer ∷ k) is = is.0
 home_is home (Caller outer ∷ k) is = is.0
 home_is home (entry ∷ k) is = home_is home k is
 
--- A region that a stack entry will close is open.
+-- A region that is closed when the control stack is unwound is open until then.
 end_among : (m : ℕ) (ms ns : List ℕ) → IsEndOf (m ∷ ms) ns → IsAmong m ns
 end_among m ms ns whole = first ms
 end_among m ms ns (following n os end) = later n os (end_among m ms os end)
@@ -264,7 +264,7 @@ abbrev pub IsKeptOpen : List Region → Life → Type 0
 IsKeptOpen regions (Kept (KeyOf number)) = is_open (slice_get regions number) ≡ true
 IsKeptOpen regions l = Unit {0}
 
--- A resource that is lent has a holder.
+-- A resource (key or unique pointer) that is lent has a holder that owns it.
 pub lent_held : (count : ℕ) (h : Holder) → is_lent_by count h ≡ true → IsHeld h
 lent_held count Nobody e = absurd (let k : false ≡ true = e in cc)
 lent_held count (Hand i) e = tt

@@ -1,5 +1,5 @@
--- This file is about steps in which no resource changes its holder and the heap state (regions and objects) is
--- unchanged: typed parts stay typed.
+-- This file is about steps in which no resource (key or unique pointer) changes its owner and the heap state
+-- (regions and objects) is unchanged: well-typed parts stay well-typed.
 use Rattle.std.proofs.Common.{◌≡◌, ◌≢◌, ℕ, Bool, true, false, List, set, Option, Some, None, slice_get, refl, sym, ap, subst, ◌∙◌, inl, inr, ◌⊎◌}
 use Rattle.std.specs.Prelude.{if◌then◌else◌, ◌==◌}
 use Rattle.std.proofs.lemmas.Bool.{eqb-true}
@@ -19,7 +19,7 @@ use Rattle.cyc_soundness.proofs.states.WorldLemmas.{object_grown}
 use Rattle.cyc_soundness.proofs.states.Hands.{given_other, held_before, given_too, nobody_before, marked_before, at_same, at_no_hand, at_not_lent, lent_same, lent_some, lent_no_hand, lent_not_at, away_not_here, away_not_gone, away_same, at_some, Changed, stays_changed, same_grows, giving_changed}
 use Rattle.cyc_soundness.proofs.states.Hands.{claims_kept, hiding_kept, variables_kept, holds_kept}
 
--- Says that the typing grows, and that variables may receive values.
+-- Says that facts about objects are added to the typing, and that variables may receive values.
 pub record Raises (g h : Typing) : Type 0 where
   pub grows : Grows g h
   pub own : h.own ≡ g.own
@@ -57,8 +57,8 @@ module _ (g h : Typing) (stays : Stays g h) where
 
 -- ---- the world is unchanged
 
--- A resource moves to another holder. Each cell held the resource of its own value before, and the values of different cells claim
--- different resources.
+-- A resource moves to another holder (operand, cell or loan). Each cell owned the resource of its own value before, and the values
+-- of different cells represent different resources.
 pub hands_typed : (g : Typing) (o : Option Thing) (old new : Holder) (here : ℕ → Standing) (regions : List Region) (objects : List Object) → Owns g.own old o → IsHeld old
     → ((object i : ℕ) (t : ObjectType) (x : Object) → slice_get g.objects object ≡ Some t → slice_get objects object ≡ Some x → IsKept (record g { own = given o new g.own; here = here }) object i t.is_hidden
     → (IsKept g object i t.is_hidden × (At object i ≢ old)) ⊎ ((u : RunTy) (c : Cell) (v : values.Value) → slice_get t.cells i ≡ Some u → slice_get x.cells i ≡ Some c → c.content ≡ Some v → Claims (given o new g.own) (At object i) u v))
@@ -108,7 +108,7 @@ module _ (g : Typing) (o : Option Thing) (object : ℕ) (new : Holder) (y : Obje
         | inr apart ↦ inl (marked_before object Gone g.here n (Away j) apart now, lent_not_at j n object 0)
       ]
 
-  -- The variable has lent its value: a loan holds the resource that the value claims.
+  -- The variable has lent its value: a loan owns the resource (key or unique pointer) that the value represents.
   pub lent_typed : (j : ℕ) → new ≡ Lent j object → ((x : Object) → slice_get objects object ≡ Some x → (i : ℕ) (u : RunTy) (c : Cell) (v : values.Value) → slice_get y.cells i ≡ Some u → slice_get x.cells i ≡ Some c → c.content ≡ Some v → Claims (given o new g.own) (Lent j object) u v)
       → IsTyped (handing g o new object (Away j)) regions objects
   lent_typed j new_is claims = hands_typed g o (At object 0) new (marked object (Away j) g.here) regions objects has tt (taken_kept (Away j) (λ e. let k : Away j ≡ Here = e in absurd (cc))) away typed
@@ -123,7 +123,7 @@ module _ (g : Typing) (o : Option Thing) (object : ℕ) (new : Holder) (y : Obje
         | inr apart ↦ inl (marked_before object (Away j) g.here n (Away i) apart now, lent_not_at i n object 0)
       ]
 
--- A further resource of a lending variable still belongs to the variable, or is lent too.
+-- A second resource that a lending variable owned is, after the loan received the first one, owned by the variable or by the loan.
 pub also_lent : (own : Thing → Holder) (o also : Option Thing) (old new : Holder) → Owns own old also → Owns (given o new own) old also ⊎ Owns (given o new own) new also
 also_lent own o None old new has = inl tt
 also_lent own None (Some b) old new has = inl has
@@ -133,7 +133,7 @@ also_lent own (Some a) (Some b) old new has = go (same_thing b a)
     go true = inr refl
     go false = inl has
 
--- If a further resource belongs to a lending variable or to its loan, then the state stays typed when the loan receives this resource.
+-- If a lending variable or its loan owns a second resource, then the run state stays well-typed when the loan receives this resource.
 pub also_typed : (g : Typing) (o : Option Thing) (object j : ℕ) (y : ObjectType) (regions : List Region) (objects : List Object) → slice_get g.objects object ≡ Some y → y.is_hidden ≡ true → g.here object ≡ Away j
     → Owns g.own (At object 0) o ⊎ Owns g.own (Lent j object) o → IsTyped g regions objects → IsTyped (giving g o (Lent j object)) regions objects
 also_typed g o object j y regions objects there hidden lent (inl has) typed = hands_typed g o (At object 0) (Lent j object) g.here regions objects has tt before (λ n i t x found stands now hides. inl (now, lent_not_at i n object 0)) typed
@@ -161,7 +161,7 @@ also_typed g o object j y regions objects there hidden lent (inr has) typed =
       | inr apart ↦ inl (now, λ e. apart (lent_same i n j object e).1)
     ]
 
--- No resource except the two transferred ones changes its holder.
+-- No resource except the two that the loan receives changes its owner.
 pub also_changed : (old new : Holder) (g h : Typing) (o : Option Thing) → Owns g.own old o → Changed old g h → Changed old g (giving h o new)
 also_changed old new g h o has changed = record {
   grows = record { objects = changed.grows.objects; filled = changed.grows.filled; fields = changed.grows.fields; kept = changed.grows.kept };
@@ -203,7 +203,7 @@ returned_typed g o object j y regions objects has there claims typed = hands_typ
       | inr apart ↦ inl (marked_before object Here g.here n (Away i) apart now, λ e. apart (lent_same i n j object e).1)
     ]
 
--- The pointer to a unique object receives a holder.
+-- The pointer to a unique object receives an owner (an operand, cell or loan).
 pub pointed_typed : (g : Typing) (object : ℕ) (new : Holder) (regions : List Region) (objects : List Object) → g.own (PointerTo object) ≡ Nobody → IsUniqueObject g objects object → IsTyped g regions objects → IsTyped (giving g (Some (PointerTo object)) new) regions objects
 pointed_typed g object new regions objects none is typed = record {
   count = typed.count;
@@ -223,7 +223,7 @@ pointed_typed g object new regions objects none is typed = record {
     go n true same held = subst (λ i. IsUniqueObject g objects i) (sym (eqb-true n object same)) is
     go n false other held = typed.unique n held
 
--- A unique object is freed; afterwards its pointer has no holder.
+-- A unique object is freed; afterwards no operand, cell or loan owns its pointer.
 pub freed_typed : (g : Typing) (object i : ℕ) (x : Object) (regions : List Region) (objects : List Object) → g.own (PointerTo object) ≡ Hand i → slice_get objects object ≡ Some x → IsTyped g regions objects
     → IsTyped (giving g (Some (PointerTo object)) Nobody) regions (set objects object (record x { owner = Unique false }))
 freed_typed g object i x regions objects has stands typed =
@@ -288,7 +288,7 @@ freed_typed g object i x regions objects has stands typed =
       | inr apart ↦ now.lent n u z found (sym (slice_get-set_other objects object n gone apart) ∙ is)
     ]
 
--- If no swap is incomplete, then each cell holds the resource of its own value.
+-- If no swap is between its two writes, then each cell owns the resource that its own value represents.
 pub not_awaited : (g : Typing) (object i : ℕ) → g.pending ≡ Settled → g.pending ≢ Awaits object i
 not_awaited g object i settled e = let k : Settled ≡ Awaits object i = sym settled ∙ e in absurd (cc)
 

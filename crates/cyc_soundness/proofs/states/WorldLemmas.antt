@@ -1,4 +1,5 @@
--- The typing of a heap state (regions and objects) grows when an object is created or a cell is written, and typed parts stay typed.
+-- Facts are added to the typing of a heap state (regions and objects) when an object is created or a cell is written. The well-typed
+-- parts of the run state stay well-typed.
 use Rattle.std.proofs.Common.{◌≡◌, ◌≢◌, ℕ, zero, suc, ◌+◌, ◌≤◌, ◌<◌, Bool, true, false, List, [], ◌∷◌, ◌++◌, length, map, set, Option, Some, None, refl, sym, ap, subst, ◌∙◌, inl, inr, arith, length-append}
 use Rattle.std.specs.Prelude.{if◌then◌else◌, slice_get}
 use Rattle.std.proofs.lemmas.List.{length-set}
@@ -117,7 +118,8 @@ variable_grows g t n here = record {
   kept = λ number is. is;
 }
 
--- The typing with one more object, in which the standing of each variable is given: it holds, has lost or has lent its value.
+-- The typing of the heap state with one more object. For each variable, it is given if the variable holds its value, has lost
+-- it or has lent it.
 abbrev pub with_variable : Typing → ObjectType → (filled : ℕ) → (here : ℕ → Standing) → Typing
 with_variable g t n here = record (with_object g t n) { here = here }
 
@@ -203,7 +205,7 @@ never_scoped (Some r) (sort, opens) found =
     let now : IsFound (Found r) = subst (λ (b : Bool). IsFound (if b then Found r else Closed)) opens found in
     subst (λ s. IsScoped s) sort now
 
--- If a key has a holder, then the key's dynamic region is open.
+-- If some operand, cell or loan owns a key, then the key's dynamic region is open.
 pub dynamic_open : (o : Option Region) → IsDynamic o → is_open o ≡ true
 dynamic_open None is = absurd is
 dynamic_open (Some r) (sort, opens) = opens
@@ -378,8 +380,8 @@ module _ (g : Typing) (w : World) (number offset : ℕ) (x : ObjectType) (t : Ru
           (type_grown g now_typed now_grows t v has);
     }
 
-    -- Writing a cell leaves the resources of all other cells unchanged, and the written cell receives its value.
-    -- Resources without a holder have no holder afterwards.
+    -- Writing a cell leaves the owners of the resources in all other cells unchanged, and the written cell
+    -- receives its value. Resources that no operand, cell or loan owns have no owner afterwards.
     pub cell_written : ((a : Thing) → IsHeld (own a) → IsHeld (g.own a)) → ((a : Thing) → g.own a ≡ Nobody → own a ≡ Nobody)
         → ((object i : ℕ) (hidden : Bool) → (object ≡ number → i ≢ offset) → IsKept now_typed object i hidden → (a : Thing) → g.own a ≡ At object i → own a ≡ At object i) → ((object i : ℕ) (hidden : Bool) → object ≢ number → IsKept now_typed object i hidden → IsKept g object i hidden)
         → ((i : ℕ) (u : RunTy) → slice_get x.cells i ≡ Some u → i ≢ offset → IsKept now_typed number i x.is_hidden → IsKept g number i x.is_hidden) → (IsKept now_typed number offset x.is_hidden → Claims own (At number offset) t v)
@@ -458,7 +460,7 @@ module _ (g : Typing) (w : World) (number offset : ℕ) (x : ObjectType) (t : Ru
               (still (At object i) (thing_of r z) (stays object i u.is_hidden (λ same. absurd (apart same)) kept) owns, start))
         ]
 
-        -- The cell that is written is not lent.
+        -- The value in the cell that is written is not lent.
         lent : (object : ℕ) (u : ObjectType) (y : Object) → slice_get g.objects object ≡ Some u → slice_get (set w.objects number with_value) object ≡ Some y → AreLent now_typed object u y.cells
         lent object u y there stands = elim (same_or_other object number) [
           | inl same ↦ λ i j r d z now hides. (let type_is : x ≡ u = same_Some x u (sym at ∙ ap (λ n. slice_get g.objects n) (sym same) ∙ there) in

@@ -1,5 +1,5 @@
--- This file is about calls, in which arguments become parameters and the body of the function begins, and
--- about the start of the clauses of a `try`.
+-- This file is about calls, where arguments become parameters and the function body begins, and about the
+-- start of the catch clauses of a `try`.
 use Rattle.std.proofs.Common.{◌≡◌, ℕ, suc, ◌+◌, ◌<◌, ◌≤◌, ◌%◌, Bool, true, false, List, [], ◌∷◌, ◌++◌, length, map, reverse, Option, Some, None, refl, sym, ap, subst, ◌∙◌, arith}
 use Rattle.std.specs.Prelude.{if◌then◌else◌, ◌==◌}
 use Rattle.std.proofs.lemmas.Bool.{eq-eqb}
@@ -61,7 +61,8 @@ turned_length (a ∷ as') bs =
     let r : length (turned as' (a ∷ bs)) ≡ suc (length as') + length bs = omega (arith, e) in
     r
 
--- When an argument becomes a parameter, the arguments after it keep the resources that they claim.
+-- When an argument becomes a parameter, the arguments after it still own the resources (keys and unique pointers) that their values
+-- represent.
 given_later : (g h : Typing) (i j : ℕ) (ts : List RunTy) (vs : List Operand) → Changed (Hand i) g h → i < j → AreGiven g.own j ts vs → AreGiven h.own j ts vs
 given_later g h i j [] vs changed less are = tt
 given_later g h i j (t ∷ ts) [] changed less are = tt
@@ -88,7 +89,7 @@ known_inside g d (Kept (KeyOf region)) known = known
 known_inside g d (Kept (PointerTo object)) known = known
 known_inside g d lives.Owned known = known
 
--- A call leaves the typing of its caller unchanged.
+-- A call leaves the typing of its caller's state unchanged.
 same_around : (g : Typing) → Stays g (record g { depth = g.depth })
 same_around g = record {
   grows = record { objects = λ n u is. is; filled = λ n count is. is; fields = λ n ls ts is. is; kept = λ n is. is };

@@ -1,4 +1,5 @@
--- This file is about operator chains, conversions and tests that await a value: when the value is passed, the step yields a typed state.
+-- This file is about sequences of operators, conversions and tests for which the stack awaits an operand. When the operand's value is
+-- passed, the step yields a well-typed run state.
 use Rattle.std.proofs.Common.{◌≡◌, ◌⊎◌, inl, inr, ℕ, Bool, true, false, not, List, [], ◌∷◌, Option, Some, None, refl, sym, ap, subst, ◌∙◌, arith}
 use Rattle.std.specs.Prelude.{◌+◌, nat_lt, if◌then◌else◌}
 use Rattle.std.proofs.lemmas.Bool.{and_from}
@@ -82,7 +83,7 @@ thin_claims own h k marks.Nullable t l object offset z same is = subst (λ v. Cl
 thin_claims own h k marks.NonNull t l object offset z same is = subst (λ v. Claims own h (lives.Pointer marks.NonNull t l) v) (gives_same (values.Thin object offset) z same) is
 thin_claims own h k marks.Fat t l object offset z same is = subst (λ v. Claims own h (lives.Pointer marks.Fat t l) v) (gives_same (values.Fat object offset 1 0) z same) is
 
--- A pointer to the start of its object still points to the start after a conversion.
+-- A pointer to the start of its object still points to the start of the object after a conversion.
 start_sum : (l : Life) (start index : ℕ) → AtStart l start index → AtStart l (start + index) 0
 start_sum (OfRegion number ns us) start index at = tt
 start_sum (Kept region) start index at = tt
@@ -110,7 +111,7 @@ pointer_claims g own h marks.NonNull m t l (values.Thin object offset) z has sam
 pointer_claims g own h marks.Fat m t l (values.Fat object start count index) z has same is = fat_claims own h m t l object start count index z same is
 pointer_claims g own h k m t l v z has same is = absurd has
 
--- A value that is converted keeps its holder.
+-- The resource that a converted value represents is still owned by the same operand, cell or loan.
 life_claims : (own : Thing → Holder) (h : Holder) (m : PointerKind) (t : RunTy) (l n : Life) (z : values.Value) → (n ≡ Owned → l ≡ Owned) → Claims own h (lives.Pointer m t l) z → Claims own h (lives.Pointer m t n) z
 life_claims own h m t l n z keeps is = go n refl
   where
@@ -137,7 +138,7 @@ module _ (p : Program) (g : Typing) (x : Exits) (bs : List InScope) (e : Environ
   on : (focus : Focus) (k : List Entry) → LiveIn k bs → IsFocus p g x bs focus k → IsWell p (Running focus k e w)
   on focus k live stands = running p g x bs e w typed globals bound variables focus k live stands
 
-  -- The right operand of a pointer operator is evaluated, or it is null.
+  -- The right operand of a pointer operator is an expression that is evaluated, or it is the null constant.
   null_on : {o : PointerOperator} (peek : Option ℕ) (kind : Kind) (value : values.Value) (b : Expression) (os : Operations) (k : List Entry) (c : Context) (v w' : ValueType) (f f1 : flow.State) → LiveIn k bs
       → kind ≡ kinds.Nullable → value ≡ values.Null → IsContext p x bs c → Holds g f bs → PointerOperation c o types.Null v w' → Evaluates (and_looked peek (relied_at x.relied k)) c b f v f1
       → IsStack p g x bs (Val (read_value bs w') f1) (Needs (Chain os) ∷ k) → IsWell p (Running (Evaluating b) (Needs (ApplyPointer peek o (record { kind = kind; value = value })) ∷ Needs (Chain os) ∷ k) e w)
@@ -175,7 +176,7 @@ module _ (p : Program) (g : Typing) (x : Exits) (bs : List InScope) (e : Environ
       go (types.Value t) is part op = on (Evaluating b) (Needs (ApplyPointer peek o left) ∷ Needs (Chain os) ∷ k) live
           (c, v, f, f1, stands, holds, evaluates, (read bs t ∷ [], bs, Val (read_value bs w') f1, awaited.points (judgements.seen_by b evaluates.typed) c t v w' f1 stands op, ((is, tt), part t refl), stack))
 
-  -- The resource that a left operand claims, if the operator only peeks at the operand, that is, reads it without moving its value.
+  -- The resource that a left operand represents, if the operator only peeks at the operand, that is, reads it without moving its value.
   left_part : (i : ℕ) (peek : Option ℕ) (n : ℕ) (s : ValueType) (v : values.Value) → (peek ≡ Some n) ⊎ ((peek ≡ None) × IsPlainValue (read_value bs s)) → ClaimsBy g i (looked peek (read_value bs s)) v → (t : Ty) → s ≡ types.Value t → ClaimsPart g i (Some n) (thing_of (read bs t) v)
   left_part i peek n s v (inl same) comes t is =
       subst (λ o. ClaimsPart g i o (thing_of (read bs t) v)) same (looked_part g i peek (read bs t) v (subst (λ z. ClaimsBy g i (looked peek (read_value bs z)) v) is comes))
@@ -188,7 +189,7 @@ module _ (p : Program) (g : Typing) (x : Exits) (bs : List InScope) (e : Environ
       looked_at_plain : (t : lives.RunTy) (v : values.Value) → IsPlain t → IsLookedAt g n (thing_of t v)
       looked_at_plain t v plain = nothing_at (thing_of t v) (plain_claims (λ a. Nobody) (Hand 0) t v plain).0
 
-  -- A left operand is passed to the rest of its operator chain.
+  -- The value of a left operand is passed to the sequence of operators that are still to be applied to it.
   pub chain_on : (os : Operations) (peek : Option ℕ) (v : Operand) (k : List Entry) (c : Context) (s : ValueType) (u : Ty) (f h : flow.State) (q : List ℕ) → LiveIn k bs → IsContext p x bs c → Holds g f bs
       → IsResult g (looked peek (read_value bs s)) v → ClaimsBy g (0 + awaited.operands_in k) (looked peek (read_value bs s)) v.value → IsChained peek (read_value bs s) os → IsChain c s os u → Derives (rule_operations q os f) h → InOperations (relied_at x.relied k) os
       → IsStack p g x bs (Val (Value (read bs u)) h) k → IsWell p (chained os v k e w)

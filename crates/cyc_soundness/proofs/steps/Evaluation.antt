@@ -1,4 +1,4 @@
--- This file is about the evaluation of a typed expression: each step yields a typed state.
+-- This file is about the evaluation of a well-typed expression: each step yields a well-typed run state.
 use Rattle.std.proofs.Common.{◌≡◌, ◌⊎◌, inl, inr, ℕ, Bool, true, List, [], ◌∷◌, map, Some, slice_get, refl, sym, ap, subst, ◌∙◌}
 use Rattle.std.specs.Prelude.{if◌then◌else◌, option_map}
 use Rattle.std.proofs.lemmas.Bool.{not-true}
@@ -72,7 +72,7 @@ left_chained q well c a v (ThenTest o b os) kept is r = tt
 left_chained q well c a v (ThenPointer o b os) kept is r = refl
 left_chained q well c a v (ThenPointerPeek n o b os) kept is r = inl (peek_is n a is.1)
 
--- No flow state relies on a local to which a unique pointer or a key is assigned.
+-- No flow state requires a local to hold its value if a unique pointer or a key is assigned to the local.
 moved_spared : (q : Relied) (place : Place) (n : ℕ) (v : Ty) (u : ValueType) → u ≡ assigned_type v → is_moved v ≡ true → SparesAssigned q (Local place n) u → IsSpared q n
 moved_spared q place n v u gives moved spared = subst (λ z. SparesAssigned q (Local place n) z) (gives ∙ ap (λ (b : Bool). if b then types.Void else types.Value v) moved) spared
 
@@ -96,7 +96,7 @@ module _ (p : Program) where
     on : (focus : Focus) (k : List Entry) → LiveIn k bs → IsFocus p g x bs focus k → IsWell p (Running focus k e w)
     on focus k live stands = running p g x bs e w typed globals bound variables focus k live stands
 
-    -- Passing a value to its stack entry yields a typed state.
+    -- Passing a value to the stack entry that awaits it yields a well-typed run state.
     pub hands : (k : List Entry) (r s : RunValue) (v : Operand) (f h : flow.State) → LiveIn k bs → Holds g f bs → h ≡ f → r ≡ s → IsResult g s v → awaited.Comes g s v k → IsStack p g x bs (Val r h) k
         → IsWell p (Running (Given v) k e w)
     hands k r s v f h live holds same_flow same_type is comes stack =

@@ -1,4 +1,4 @@
--- This file is about statements and the items of blocks: each step yields a typed state.
+-- This file is about statements and the declarations of blocks: each step yields a well-typed run state.
 use Rattle.std.proofs.Common.{◌≡◌, inl, ℕ, suc, ◌+◌, ◌≤◌, ◌<◌, Bool, true, false, List, [], ◌∷◌, length, Option, Some, None, refl, sym, ap, subst, ◌∙◌, arith}
 use Rattle.std.proofs.lemmas.Bool.{not-true}
 use Rattle.cyc_words.proofs.Members.{Contains-tail}
@@ -97,7 +97,7 @@ context_relying p x bs c f stands = record {
 pub context_after : (p : Program) (x : Exits) (bs : List InScope) (c : Context) (s : Statement) → IsContext p x bs c → IsContext p x bs (following c s)
 context_after p x bs c s stands = context_following p x bs c (length (declared_types s)) (declared_regions s) stands
 
--- The type of the handle of an opened region may be declared in the scope.
+-- A local whose type is that of the handle of an opened region may be declared in the scope.
 new_handle : (n r : ℕ) → r ≡ n → IsDeclarable (suc n) (types.Handle (regions.Variable r))
 new_handle n r same = let e : r < suc n = omega (arith, same) in e
 
@@ -109,7 +109,7 @@ alias_kind r (types.Handle s) = refl
 alias_kind r (types.Key s) = refl
 alias_kind r (types.Struct n rs) = refl
 
--- Facts that hold at breaks also hold at earlier breaks if they are weakened.
+-- If the flow state at all `break` statements so far implies the state after the loop, so does the stronger state at the earlier ones.
 pub breaks_before : (l : Option LoopExit) (a b : flow.State) → Implies a b → AreBreaks l b → AreBreaks l a
 breaks_before None a b i are = tt
 breaks_before (Some l) a b i are = implies_after a b l.breaks i are
@@ -167,7 +167,7 @@ module _ (p : Program) (g : Typing) (x : Exits) (bs : List InScope) (e : Environ
 
   -- ---- blocks
 
-  -- The scope of a block whose region is open.
+  -- The scope of a block whose region has been opened.
   abbrev pub block_scope : Context → List Entry → List InScope
   block_scope c k = Home (length w.regions) ∷ Names c.next_region (OfRegion (length w.regions) (ends_of k) (lent_now g)) true ∷ bs
 
@@ -306,7 +306,7 @@ module _ (p : Program) (g : Typing) (x : Exits) (bs : List InScope) (e : Environ
 
   -- ---- items
 
-  -- The rest of a block after a declaration or statement that lends a local.
+  -- The rest of a block, which is executed after a declaration or statement that lends a local.
   lent_rest : (lent : ℕ) (js : Items) (c : Context) (f before following' ending : flow.State) → lent < c.next_local → IsLockedIn lent f → AreScoped c.locals c.next_local → WellTypedItems c js
       → Derives (rule_items (around (lending x lent)) js (record { now = f; breaks = before })) (record { now = ending; breaks = following' }) → AreBreaks x.loop following' → InItems x.relied c.next_region js
       → Continues (lending x lent) c js f (with_each Full (locks_of js) ending)

@@ -1,4 +1,5 @@
--- This file is about loans to the end of a block: dynamic regions that are opened by keys, and unique objects that are shared by aliases.
+-- This file is about loans to the end of a block: dynamic regions that are opened by keys, and unique objects that an alias shares for
+-- the length of a block.
 use Rattle.std.proofs.Common.{◌≡◌, inl, inr, set, ℕ, suc, ◌+◌, ◌≤◌, ◌<◌, Bool, true, false, List, [], ◌∷◌, length, Option, Some, None, slice_get, refl, sym, ap, subst, ◌∙◌, arith, zero}
 use Rattle.std.specs.Prelude.{if◌then◌else◌}
 use Rattle.std.proofs.lemmas.Bool.{eq-eqb}
@@ -57,7 +58,7 @@ use Rattle.cyc_soundness.proofs.states.Cells.{pointer_plain, plain_claims, runni
 
 -- ---- types
 
--- The type of a local mentions only regions that were declared before the local.
+-- The type of a local contains only regions that were declared before the local.
 pub local_type_known : (c : Context) (n : ℕ) (t : Ty) (r : ℕ) → AreKnown c.next_region c.regions c.locals c.result → HasLocal c.locals n t r → AllIn (IsKnown c.next_region) t
 local_type_known c n t r known has = go c.locals known.locals has
   where
@@ -86,13 +87,13 @@ unique_is (types.Handle r) unique = absurd (let z : false ≡ true = unique in c
 unique_is (types.Key r) unique = absurd (let z : false ≡ true = unique in cc)
 unique_is (types.Struct s rs) unique = absurd (let z : false ≡ true = unique in cc)
 
--- The lifetime of a shared object: it lasts while the object is lent, or for ever if the pointer is null.
+-- The lifetime of an object shared by an alias: it lasts while the object is lent, or for ever if the pointer is null.
 abbrev shared_life : values.Value → Life
 shared_life (values.Thin object offset) = Kept (PointerTo object)
 shared_life (values.Fat object start count index) = Kept (PointerTo object)
 shared_life v = heap_life
 
--- an alias has the type of the shared pointer, with the lifetime of the loan
+-- an alias has the type of the pointer that it shares, with the lifetime of the loan
 alias_read : (bs : List InScope) (n : ℕ) (l : Life) (k : PointerKind) (t : Ty) → AllIn (IsKnown n) t → read (Names n l true ∷ bs) (types.Pointer k t (regions.Variable n)) ≡ lives.Pointer k (read bs t) l
 alias_read bs n l k t known =
     let inner : List InScope = Names n l true ∷ bs in
@@ -100,7 +101,7 @@ alias_read bs n l k t known =
     (all_in_weaker (IsKnown n) (λ r. lives_in bs r ≡ lives_in inner r) (λ r is. other_life n l true bs r (known_other n r is)) t known)) in
     ap (λ z. lives.Pointer k z (life_named inner n)) same ∙ ap (λ m. lives.Pointer k (read bs t) m) (same_name n l (life_named bs n))
 
--- Says that a resource, if there is one, is lent in this typing.
+-- Says that a resource (key or unique pointer), if there is one, is recorded as lent in this typing of the heap state.
 abbrev IsLentNow : Typing → Option Thing → Type 0
 IsLentNow g None = Unit {0}
 IsLentNow g (Some a) = lent_now g a ≡ true
@@ -160,7 +161,7 @@ module _ (g : Typing) (regions : List state.Region) (objects : List state.Object
   shared_typed k t (values.Handle n) is lent = shared_other k t lives.Owned (values.Handle n) tt is
   shared_typed k t (values.Key n) is lent = shared_other k t lives.Owned (values.Key n) tt is
 
--- If a property holds for the lifetimes of the heap and of all lent objects, then it holds for the lifetime of a shared value.
+-- A property of the lifetimes of the heap and of all lent objects holds for the lifetime of the object that an alias shares.
 shared_by : (v : values.Value) (P : Life → Type 0) → P heap_life → ((object : ℕ) → P (Kept (PointerTo object))) → P (shared_life v)
 shared_by values.Null P heap lent = heap
 shared_by (values.Thin object offset) P heap lent = lent object
@@ -216,7 +217,7 @@ module _ (p : Program) (g : Typing) (x : Exits) (bs : List InScope) (e : Environ
   lending_grows : (b : Bound) (v : values.Value) (also : Option Thing) → Grows g (lending_typing b v also)
   lending_grows b v also = record { objects = λ n u is. is; filled = λ n count is. is; fields = λ n ls ts is. is; kept = λ n is. is }
 
-  -- The facts that hold while a local is lent.
+  -- The flow facts about locals that hold while a local is lent.
   record IsLent (also : Option Thing) (b : Bound) (lent : ℕ) (f h : flow.State) (cs : List InScope) (k : List Entry) : Type 0 where
     value : values.Value
     claims : Claims g.own (At b.object 0) b.of_type value

@@ -38,7 +38,7 @@ blank_cells g h [] (v ∷ vs) are = absurd are
 blank_cells g h (t ∷ ts) [] are = absurd are
 blank_cells g h (t ∷ ts) (v ∷ vs) (is, are) = ((is.0, refl), blank_cells g h ts vs are)
 
--- Operands on the stack, which has the last operand first, keep their claims when they become arguments in order.
+-- Operands on the stack, the last on top, still own their resources (keys and unique pointers) when they become arguments in order.
 pub given_turned : (g : Typing) (i : ℕ) (ts us : List RunTy) (vs ws : List Operand) → AreOperands g ts vs → AreClaimed g.own i ts vs → AreGiven g.own (i + length ts) us ws → AreGiven g.own i (turned ts us) (reverse_aux vs ws)
 given_turned g i [] us [] ws operands are more = let e : i + 0 ≡ i = omega arith in subst (λ j. AreGiven g.own j us ws) e more
 given_turned g i [] us (v ∷ vs) ws operands are more = absurd operands
@@ -47,7 +47,7 @@ given_turned g i (t ∷ ts) us (v ∷ vs) ws operands (is, are) more =
     let e : i + suc (length ts) ≡ suc (i + length ts) = omega arith in
     given_turned g i ts (t ∷ us) vs (v ∷ ws) operands.1 are (is, subst (λ j. AreGiven g.own j us ws) e more)
 
--- When an operand moves elsewhere, the operands after it keep their claims.
+-- When an operand moves elsewhere, the operands after it still own the resources that their values represent.
 module _ (old : Holder) (g h : Typing) (changed : Changed old g h) where
   pub given_kept : (j : ℕ) (ts : List RunTy) (vs : List Operand) → ((i : ℕ) → j ≤ i → Hand i ≢ old) → AreGiven g.own j ts vs → AreGiven h.own j ts vs
   given_kept j [] vs other are = tt
@@ -70,14 +70,14 @@ next_grown g h grows zero ts vs are = operands_grown g h grows ts vs are
 next_grown g h grows (suc i) [] vs are = absurd are
 next_grown g h grows (suc i) (t ∷ ts) vs are = next_grown g h grows i ts vs are
 
--- The next operand for a new object or a call, and the operands after it.
+-- The next operand with which a new object or a call is supplied, and the operands after it.
 pub next_one : (g : Typing) (i : ℕ) (ts : List RunTy) (v : Operand) (vs : List Operand) → AreNext g i ts (v ∷ vs) → (t : RunTy) × (slice_get ts i ≡ Some t) × IsResult g (Value t) v × AreNext g (suc i) ts vs
 next_one g zero [] v vs are = absurd are
 next_one g zero (t ∷ ts) v vs (is, are) = (t, refl, is, are)
 next_one g (suc i) [] v vs are = absurd are
 next_one g (suc i) (t ∷ ts) v vs are = next_one g i ts v vs are
 
--- The next operand for a new object or a call claims its resource.
+-- The next operand with which a new object or a call is supplied owns the resource that its value represents.
 pub next_claims : (own : Thing → Holder) (g : Typing) (place i : ℕ) (ts : List RunTy) (v : Operand) (vs : List Operand) (t : RunTy) → slice_get ts i ≡ Some t → AreNextGiven own place i ts (v ∷ vs) → Claims own (Hand place) t v.value × AreNextGiven own (suc place) (suc i) ts vs
 next_claims own g place zero [] v vs t at are = absurd (let k : None ≡ Some t = at in cc)
 next_claims own g place zero (u ∷ ts) v vs t at (is, are) = (subst (λ z. Claims own (Hand place) z v.value) (same_Some u t at) is, are)
@@ -103,7 +103,7 @@ whole_grown g h grows y (Struct n ls) is = grows.fields n ls y.cells is
 abbrev pub new_type : List RunTy → Life → ObjectType
 new_type ts l = record { cells = ts; life = l; is_hidden = false; slot = NoLocal }
 
--- An object that has a single cell is complete with one value of the cell's type.
+-- An object that has a single cell is complete once a value of the cell's type is stored in it.
 pub whole_of : (g : Typing) (l : Life) (t : RunTy) (v : values.Value) → HasType g t v → IsWhole g (new_type (t ∷ []) l) t
 whole_of g l Int v has = refl
 whole_of g l Char v has = refl
@@ -162,7 +162,7 @@ new_is_owner l (InRegion n) is = is
 new_is_owner l (Unique true) is = is
 new_is_owner l (Unique false) is = absurd is
 
--- The pointer to an object that does not exist yet has no holder.
+-- No operand, cell or loan owns the pointer to an object that does not exist yet.
 pub unheld_new : (g : Typing) (regions : List Region) (objects : List Object) → IsTyped g regions objects → g.own (PointerTo (length objects)) ≡ Nobody
 unheld_new g regions objects typed = go (g.own (PointerTo (length objects))) refl
   where

@@ -1,4 +1,4 @@
--- This file is about the cells to which a pointer points, the stack entries that await such a cell, and operators on pointers.
+-- This file is about the cells to which a pointer points, the stack entries that wait for such a cell, and operators on pointers.
 use Rattle.std.proofs.Common.{◌≡◌, ◌⊎◌, inl, inr, ℕ, zero, suc, ◌+◌, ◌<◌, ◌≤◌, Bool, true, false, List, [], ◌∷◌, length, map, Option, Some, None, slice_get, refl, sym, ap, subst, ◌∙◌, arith}
 use Rattle.std.specs.Prelude.{if◌then◌else◌, nat_lt, ◌==◌, ◌&&◌}
 use Rattle.std.proofs.lemmas.Bool.{eq-eqb, ltb-true, and_from}
@@ -110,8 +110,7 @@ fat_kind marks.Nullable fat = absurd (let e : true ≡ false = fat in cc)
 fat_kind marks.NonNull fat = absurd (let e : true ≡ false = fat in cc)
 fat_kind marks.Fat fat = refl
 
--- The left operand of a well-typed pointer operator has a representation kind (nullable, non-null
--- or fat pointer) that the operator accepts.
+-- The left operand of a well-typed pointer operator has a pointer kind (nullable, non-null or fat) that the operator accepts.
 pub takes_left : (n : Lives) (g : Typing) {c : Context} {o : PointerOperator} {u v w : ValueType} (left : Operand) → PointerOperation c o u v w → IsResult g (value_at n u) left → takes_kind o left.kind ≡ true
 takes_left n g left (adds t r other) is = is_kind_same left.kind kinds.Fat is.0
 takes_left n g left (subtracts t r other) is = is_kind_same left.kind kinds.Fat is.0
@@ -240,7 +239,7 @@ module _ (g : Typing) (w : World) (typed : IsTyped g w.regions w.objects) where
   no_pointer (lives.Pointer k t l) target v plain has = absurd plain
   no_pointer t target v plain has = absurd has
 
-  -- A pointer leads to the target that the typed tree states for it, also if the pointer is the source of a conversion.
+  -- A pointer points to an object of the target type that the typed tree states, also if the pointer is the source of a conversion.
   pub converted_leads : (l : Lives) (c : Context) (s : ValueType) (t : Ty) (v : Operand) → Converts c s t → IsResult g (value_at l s) v → leads_to w (target_of_value s) (followed v.value) ≡ true
   converted_leads l c (types.Value types.Int) t v conv is = no_pointer lives.Int None v.value tt is.1
   converted_leads l c (types.Value types.Char) t v conv is = no_pointer lives.Char None v.value tt is.1
@@ -260,14 +259,14 @@ module _ (p : Program) (g : Typing) (x : Exits) (bs : List InScope) (e : Environ
   on : (focus : Focus) (k : List Entry) → LiveIn k bs → IsFocus p g x bs focus k → IsWell p (Running focus k e w)
   on focus k live stands = running p g x bs e w typed globals bound variables focus k live stands
 
-  -- Passing on a computed value yields a typed state.
+  -- Passing a computed value to the stack yields a well-typed run state.
   pub gives_by : (k : List Entry) (kind : Kind) (t : RunTy) (f : flow.State) (r : Result) → LiveIn k bs → Holds g f bs → kind ≡ kind_at t → Fits g t r → ((v : values.Value) → r ≡ Gives v → Claims g.own (Hand (awaited.operands_in k)) t v)
       → IsStack p g x bs (Val (Value t) f) k → IsWell p (computed kind r k e w)
   gives_by k kind t f (Gives v) live holds same fits comes stack = on (Given (record { kind = kind; value = v })) k live (Value t, f, holds, (same, fits), comes v refl, stack)
   gives_by k kind t f (Raises tag) live holds same fits comes stack = on (Throwing tag 0) k live (Val (Value t) f, stack)
   gives_by k kind t f Misfits live holds same fits comes stack = absurd fits
 
-  -- The result is a pointer into an object; a peek has read the object's pointer, or an operand holds it.
+  -- The result is a pointer into an object. The pointer to this object was read from a local by a peek, or an operand on the stack owns it.
   gives_into : (k : List Entry) (peek : Option ℕ) (kind : Kind) (t : RunTy) (f : flow.State) (r : Result) → LiveIn k bs → Holds g f bs → kind ≡ kind_at t → Fits g t r → ((v : values.Value) → r ≡ Gives v → ClaimsPart g (awaited.operands_in k) peek (thing_of t v))
       → IsStack p g x bs (Val (lives.Into peek t) f) k → IsWell p (computed kind r k e w)
   gives_into k peek kind t f (Gives v) live holds same fits comes stack = on (Given (record { kind = kind; value = v })) k live (lives.Into peek t, f, holds, (same, fits), comes v refl, stack)
@@ -377,7 +376,7 @@ module _ (p : Program) (g : Typing) (x : Exits) (bs : List InScope) (e : Environ
 
   -- ---- fields
 
-  -- A step that looks up a field of an object that is a struct finds the field's cell, and yields a typed state.
+  -- A step that looks up a field of an object that is a struct finds the field's cell, and yields a well-typed run state.
   field_found : (n : ℕ) (ls : List Life) (s : StructType) (t : Ty) (u : RunTy) (l : Life) (field object offset : ℕ) (peek : Option ℕ) (k : List Entry) (f : flow.State) → LiveIn k bs → Holds g f bs
       → slice_get p.structs n ≡ Some s → slice_get s.fields field ≡ Some t → (length ls ≡ s.parameters → at (lives_among ls) t ≡ u) → IsTarget g (lives.Struct n ls) l object offset
       → ClaimsPart g (awaited.operands_in k) peek (pointer_at l object) → IsStack p g x bs (PlaceOf peek u l f) k → IsWell p (arrives (member_of w (At object offset) (map values.kind_of s.fields) field) k e w)

@@ -1,4 +1,4 @@
--- This file is about passing a value to the stack entry that awaits it: the step yields a typed state.
+-- This file is about passing a value to the stack entry that waits for it: the step yields a well-typed run state.
 use Rattle.std.proofs.Common.{◌≡◌, ap, ℕ, zero, suc, ◌<◌, ◌≤◌, Bool, true, false, List, [], ◌∷◌, length, Option, Some, None, slice_get, refl, sym, subst, ◌∙◌, arith, ◌+◌}
 use Rattle.std.specs.Prelude.{if◌then◌else◌}
 use Rattle.std.proofs.lemmas.Option.{same_Some}
@@ -110,7 +110,7 @@ new_local w bs number t l = record { number = number; object = length w.objects;
 abbrev new_type : (depth number : ℕ) → List InScope → Ty → Life → ObjectType
 new_type d number bs t l = variable_type (read bs t) l (is_moved t) (OfLocal d number)
 
--- The resource that a declaration puts into the local, if any.
+-- The resource (key or unique pointer) that a declaration puts into the local, if any.
 abbrev its_thing : RunTy → Option values.Value → Option Thing
 its_thing t None = None
 its_thing t (Some v) = thing_of t v
@@ -127,7 +127,7 @@ content_given : (own : Thing → Holder) (h new : Holder) (t : RunTy) (content :
 content_given own h new t None v is same = absurd (let k : None ≡ Some v = same in cc)
 content_given own h new t (Some u) v is same = subst (λ z. Claims (given_to (thing_of t u) new own) new t z) (same_Some u v same) (given_now own (thing_of t u) new, is.1)
 
--- The single cell of a new variable holds the resource of its own value.
+-- The single cell of a new variable owns the resource that its own value represents.
 one_owned : (g : Typing) (object : ℕ) (t : RunTy) (l : Life) (hidden : Bool) (s : Slot) (c : Cell) → ((v : values.Value) → c.content ≡ Some v → Claims g.own (At object 0) t v) → AreOwned g object (variable_type t l hidden s) (c ∷ [])
 one_owned g object t l hidden s c has zero u d v kept found at content =
     subst (λ z. Claims g.own (At object 0) z v) (same_Some t u found) (has v (ap (λ (z : Cell). z.content) (same_Some c d at) ∙ content))

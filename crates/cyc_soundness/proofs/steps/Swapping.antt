@@ -54,12 +54,12 @@ free_kept : (g : Typing) (object offset : ℕ) (y : ObjectType) → g.pending �
 free_kept g object offset y settled (inl (n, here)) = kept_now g object offset y.is_hidden here.0 settled
 free_kept g object offset y settled (inr shown) = ((λ is. let k : true ≡ false = sym is ∙ shown in absurd (cc)), not_awaited g object offset settled)
 
--- A local that holds the resource of its own value has not lent it.
+-- A local that owns the resource of its own value has not lent this value.
 free_not_away : (g : Typing) (object : ℕ) (y : ObjectType) → IsFree g object y → y.is_hidden ≡ true → (j : ℕ) → g.here object ≡ Away j → ⊥
 free_not_away g object y (inl (n, here)) hides j away = away_not_here (g.here object) j away here.0
 free_not_away g object y (inr shown) hides j away = let k : true ≡ false = sym hides ∙ shown in absurd (cc)
 
--- No stack entry claims a resource through an object that a swap may change.
+-- No stack entry claims a resource that is stored in an object that a swap may change.
 free_above : (x : Exits) (g : Typing) (k : List Entry) (object offset : ℕ) (y : ObjectType) → relied_at [] k ≡ [] → slice_get g.objects object ≡ Some y → IsFree g object y → IsAboveBy false x g k (At object offset)
 free_above x g k object (suc i) y none there free = tt
 free_above x g k object zero y none there (inl (n, here)) = inl (g.depth, n, here.1, inl (refl, subst (λ q. IsSpared q n) (sym none) tt))
@@ -200,7 +200,7 @@ module _ (p : Program) (g : Typing) (x : Exits) (bs : List InScope) (e : Environ
 
   -- ---- reading both places
 
-  -- The cell of a swap that is read holds the resource that its own value claims.
+  -- The cell of a swap that is read owns the resource that its own value represents.
   swap_content_on : (kind : Kind) (left right place : values.Value) (before : Option Operand) (t : Ty) (k : List Entry) (f : flow.State) → SpotAt g w (read bs t) place → kind ≡ values.kind_of t → IsStack p g x bs (Go f) k
       → ((v : values.Value) → HasType g (read bs t) v → ClaimsAt g.own place (read bs t) v → IsWell p (swap_read kind left right before v k e w)) → IsWell p (swap_loaded_at kind left right before place k e w)
   swap_content_on kind left right place before t k f s kind_is stack goes =
@@ -234,7 +234,8 @@ module _ (p : Program) (g : Typing) (x : Exits) (bs : List InScope) (e : Environ
 
   -- ---- writing both places
 
-  -- The typing after a write of a swap: only the holders and the incomplete write have changed.
+  -- The typing after a write of a swap: only the owners of resources (keys, unique pointers) and the record of the missing second write
+  -- have changed.
   pub record IsNext (own : Thing → Holder) (pending : Pending) (h : Typing) : Type 0 where
     pub grows : Grows g h
     pub own_is : h.own ≡ own
@@ -286,7 +287,7 @@ module _ (p : Program) (g : Typing) (x : Exits) (bs : List InScope) (e : Environ
         let grows : Grows (record g { own = own; pending = Settled }) (record h { pending = Settled }) = record { objects = next.grows.objects; filled = next.grows.filled; fields = next.grows.fields; kept = next.grows.kept } in
         stack_grown p (record g { own = own; pending = Settled }) (record h { pending = Settled }) (record { grows = grows; own = next.own_is; here = next.here; pending = refl; depth = next.depth; loans = next.loans }) x bs (Go f) k stack
 
-  -- The second write of a swap: the right cell receives the old value of the left cell.
+  -- The second write of a swap: the right operand's cell receives the old value of the left operand's cell.
   second_on : (two : Write) (k : List Entry) (f : flow.State) (t : Ty) → AreOpen w.regions (ends_of k) → LiveIn k bs → Holds g f bs → IsWrite p g bs f t two → IsAwaited g two.place → Claims g.own (Hand (operands_in k)) (read bs t) two.operand.value
       → IsStack p (record g { pending = Settled }) x bs (Go f) k → IsWell p (stored_at two.place two.operand (Writing [] None) k e w)
   second_on two k f t opens live holds (plain, spot, is) awaits claims stack =
@@ -310,7 +311,8 @@ module _ (p : Program) (g : Typing) (x : Exits) (bs : List InScope) (e : Environ
             (stack_by false p hand still (giving still o right) x bs (Go f) k (λ e object. refl) changed (let le : operands_in k ≤ operands_in k = omega arith in le) stack),
       ))
 
-  -- The first write of a swap: the left cell receives the value of the right cell, and an operand holds the old value of the left cell.
+  -- The first write of a swap: the left operand's cell receives the right cell's value, and an operand on the stack holds the left
+  -- cell's old value.
   first_on : (one two : Write) (k : List Entry) (f : flow.State) (t : Ty) → AreOpen w.regions (ends_of k) → LiveIn k bs → Holds g f bs → IsWrite p g bs f t one → IsWrite p g bs f t two → g.pending ≡ Settled
       → ClaimsAt g.own two.place (read bs t) one.operand.value → ClaimsAt g.own one.place (read bs t) two.operand.value → IsStack p (record g { pending = Settled }) x bs (Go f) k
       → IsWell p (stored_at one.place one.operand (Writing (two ∷ []) None) k e w)

@@ -1,4 +1,5 @@
--- This file is about unwinding the control stack entry by entry: normally, by `break`, `continue` and `return`, and by an exception.
+-- This file is about unwinding the control stack one continuation frame after the other: normally, by `break`, `continue` and
+-- `return`, and by an exception.
 use Rattle.std.proofs.Common.{◌≡◌, ◌≤◌, ℕ, zero, suc, arith, Bool, true, false, List, [], ◌∷◌, Option, Some, None, refl, sym, ap, subst, ◌∙◌, slice_get}
 use Rattle.std.proofs.lemmas.Option.{same_Some}
 use Rattle.cyc_types.specs.Types.{Ty, ValueType}
@@ -70,7 +71,7 @@ module _ (p : Program) (g : Typing) (e : Environment) (w : World) (typed : IsTyp
 
     -- ---- the end of a loan
 
-    -- The typing after a loan has ended: the resource belongs to its local again.
+    -- The typing after a loan has ended: the local that lent the resource (key or unique pointer) owns it again.
     abbrev ended_typing : (j : ℕ) → Option Thing → (object : ℕ) → Typing
     ended_typing j o object = handing (record g { loans = j }) o (At object 0) object Here
 
@@ -83,7 +84,7 @@ module _ (p : Program) (g : Typing) (e : Environment) (w : World) (typed : IsTyp
       scope : AreVariables (ended_typing j what object) bs
       stack : IsStack p (ended_typing j what object) y bs (Go h) k
 
-    -- The resource that the lending variable's value claims, if there is any, is the lent resource.
+    -- The resource that the lending variable's value represents, if there is any, is the lent resource.
     lent_content : (lent j : ℕ) (t : RunTy) (object : ℕ) → IsLentOut g lent j t object
         → (o : Option Thing) × Owns g.own (Lent j object) o × ((own : Thing → Holder) → Owns own (At object 0) o → (x : Object) → slice_get w.objects object ≡ Some x → (c : Cell) (v : values.Value) → slice_get x.cells 0 ≡ Some c → c.content ≡ Some v → Claims own (At object 0) t v)
     lent_content lent j t object (l, there, away) =
@@ -143,7 +144,7 @@ module _ (p : Program) (g : Typing) (e : Environment) (w : World) (typed : IsTyp
         given_back (Lent j object) m (ended_typing j z.what object) z.changed lent object (λ i. at_not_lent i 0 j object) z.here f bs
         (full_at_grown p g m (moment_grows g g.depth j) lent object bs full) (holds_lent g j f bs holds)
 
-    -- A value that is returned keeps its holder when a loan ends.
+    -- The resource of a value that is returned is still owned by the same operand when a loan ends.
     return_other : (i j object : ℕ) (what : Option Thing) (o : Option Ty) (r : RunValue) (v : Option Operand) → Changed (Lent j object) (record g { loans = j }) (ended_typing j what object) → IsReturn g i o r v → IsReturn (ended_typing j what object) i o r v
     return_other i j object what None r None changed is = tt
     return_other i j object what None r (Some v) changed is = absurd is

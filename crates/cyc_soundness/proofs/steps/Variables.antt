@@ -1,5 +1,5 @@
--- This file is about variables: the value of a local or a global is copied, read early (peeked at), moved or replaced; each of
--- these steps yields a typed state.
+-- This file is about variables: the value of a local or a global is copied, read early (peeked at), moved or replaced. Each of
+-- these steps on variables yields a well-typed run state.
 use Rattle.std.proofs.Common.{◌≡◌, ◌≢◌, inl, ℕ, ◌≤◌, zero, suc, Bool, true, false, List, [], ◌∷◌, map, Option, Some, None, slice_get, refl, sym, ap, subst, ◌∙◌, arith}
 use Rattle.std.specs.Prelude.{if◌then◌else◌, ◌||◌}
 use Rattle.cyc_types.specs.declared.typed.Kind.{Kind}
@@ -68,12 +68,12 @@ module _ (p : Program) (g : Typing) (x : Exits) (bs : List InScope) (e : Environ
   held_in k u b opens live among of_type full = content_of p g x bs e w typed globals bound variables (values.kind_of u) b.object 0 b.of_type (local_type g.depth b) (among_variable g among variables) refl (open_local k b opens live among) full
       (ap kind_at of_type ∙ kind_meant (lives_in bs) u)
 
-  -- A full local holds the resource of its content.
+  -- A full local (one whose value is not lent) owns the resource that its stored value represents.
   pub its_own : (b : Bound) (kind : Kind) (c : Held b kind) → g.pending ≡ Settled → IsAmong (Variable b) bs → IsHere g g.depth b.number b.object → Claims g.own (At b.object 0) b.of_type c.value
   its_own b kind c still among here =
       typed.owned b.object (local_type g.depth b) c.object (among_variable g among variables) c.there 0 b.of_type c.cell c.value (kept_now g b.object 0 b.is_hidden here.0 still) refl c.at c.content
 
-  -- The value of a local is passed to the stack entry that awaits it.
+  -- The value of a local is passed to the stack entry that waits for it.
   pub from_bound : (k : List Entry) (n : ℕ) (u : Ty) (b : Bound) (h : flow.State) (r : RunValue) → AreOpen w.regions (ends_of k) → LiveIn k bs → Holds g h bs → IsAmong (Variable b) bs → b.number ≡ n → b.of_type ≡ read bs u → IsFull g b.object
       → ((v : values.Value) → HasType g b.of_type v → IsResult g r (record { kind = values.kind_of u; value = v })) → ((c : Held b (values.kind_of u)) → ClaimsBy g (awaited.operands_in k) r c.value) → IsStack p g x bs (Val r h) k → IsWell p (loaded_from (values.kind_of u) (e.locals n) k e w)
   from_bound k n u b h r opens live holds among number of_type full fits comes stack =
@@ -82,7 +82,7 @@ module _ (p : Program) (g : Typing) (x : Exits) (bs : List InScope) (e : Environ
       (reads p g x bs e w typed globals bound variables k (values.kind_of u) b.object 0 b.of_type (local_type g.depth b) h live holds
       (among_variable g among variables) refl (open_local k b opens live among) full (ap kind_at of_type ∙ kind_meant (lives_in bs) u) r fits comes stack)
 
-  -- A full local holds the resource that its value claims.
+  -- A full local (one whose value is not lent) owns the resource that its value represents.
   pub looks_bound : (k : List Entry) (n : ℕ) (u : Ty) (b : Bound) (h : flow.State) → AreOpen w.regions (ends_of k) → LiveIn k bs → Holds g h bs → IsAmong (Variable b) bs → b.number ≡ n → b.of_type ≡ read bs u → IsFullIn h n
       → IsStack p g x bs (Val (Seen b.object (read bs u)) h) k → IsWell p (loaded_from (values.kind_of u) (e.locals n) k e w)
   looks_bound k n u b h opens live holds among number of_type full stack =
@@ -126,7 +126,7 @@ module _ (p : Program) (g : Typing) (x : Exits) (bs : List InScope) (e : Environ
         stack_changed p (At b.object 0) g h x bs (Val (Value (read bs u)) f1) k changed (g.depth, n, slot, inl (refl, spared)) stack,
       )))
 
-  -- A global is found; its type means the same in every scope as in the global scope.
+  -- The type of a global, found by its index, means the same in every scope as in the global scope.
   pub global_there : (n : ℕ) (u : Ty) (c : Context) → IsContext p x bs c → slice_get c.globals n ≡ Some u
       → (slice_get (map (λ (v : GlobalVariable). v.of_type) p.globals) n ≡ Some u) × (read bs u ≡ lives.at as_heap u)
   global_there n u c stands has =
@@ -212,8 +212,8 @@ module _ (p : Program) (g : Typing) (x : Exits) (bs : List InScope) (e : Environ
         stack_changed p hand one h x bs (Val (read_value bs (assigned_type t)) (with_fullness Full f b.number)) k all (let le : awaited.operands_in k ≤ awaited.operands_in k = omega arith in le) stack_now,
       )))
     where
-      -- The stack stays typed when an assigned variable is marked as holding its value. If no
-      -- pointer points to the variable, then no flow state relies on its value.
+      -- The stack stays well-typed when an assigned variable is marked as holding its value. If no pointer points to the variable, then no
+      -- flow state requires its value.
       marked_stack : (hidden : Bool) → b.is_hidden ≡ hidden → IsStack p (record g { here = marked b.object Here g.here }) x bs (Val (read_value bs (assigned_type t)) (with_fullness Full f b.number)) k
       marked_stack true hides = stack_changed p (At b.object 0) g (record g { here = marked b.object Here g.here }) x bs (Val (read_value bs (assigned_type t)) (with_fullness Full f b.number)) k (marked_changed g b.object)
           (g.depth, b.number, (local_type g.depth b, among_variable g among variables, refl), inl (refl, spared hides)) stack

@@ -1,5 +1,5 @@
--- This file is about the lifetimes that region variables denote in a call: for its loans, for the types in its function, and for
--- its struct fields and globals.
+-- This file is about the lifetimes that region variables denote in a call: those of the call's loans, of the types in its
+-- function, and of its struct fields and globals.
 use Rattle.std.proofs.Common.{◌≡◌, ◌≢◌, inl, inr, ℕ, zero, suc, ◌≤◌, ◌<◌, Bool, true, false, List, [], ◌∷◌, length, map, Some, slice_get, refl, sym, ap, subst, ◌∙◌, arith}
 use Rattle.std.specs.Prelude.{Option, None, option_map, if◌then◌else◌, ◌==◌, Contains, slice_index_or}
 use Rattle.std.proofs.lemmas.Bool.{eqb-true, eq-eqb}
@@ -87,7 +87,7 @@ module _ (p : Program) (x : Exits) (bs : List InScope) (c : Context) (stands : I
       home_named c.region c.next_region l live bs (sym (other_name c.next_region c.region l (life_named bs c.region) apart))
       (λ there. other_name c.next_region c.region live (is_live_named bs c.region) apart ∙ there) stands.home
 
-  -- The typing context after the declaration of a key, whose region is not open.
+  -- The typing context after the declaration of a key, whose dynamic region is not open.
   pub context_key : (l : Life) → IsContext p x (Names c.next_region l false ∷ bs) (with_region c)
   context_key l = context_named c.next_region l false (other_life c.next_region l false bs) (suc c.next_region) c.regions
       (known_after c.next_region (suc c.next_region) c.regions c.locals c.result (let most : c.next_region ≤ suc c.next_region = omega arith in most) stands.known) (stand_new l false) (home_new l false)
@@ -98,7 +98,7 @@ module _ (p : Program) (x : Exits) (bs : List InScope) (c : Context) (stands : I
       (known_opened c.next_region scopes.Alias c.regions c.locals c.result stands.known)
       (stand_also scopes.Alias c.next_region l c.regions bs refl (stand_new l true)) (home_new l true)
 
-  -- The typing context in which the region of a key is open.
+  -- The typing context in which the dynamic region of a key is open.
   pub context_again : (r : ℕ) → r < c.next_region → IsContext p x (Names r (life_named bs r) true ∷ bs) (with_key_opened r c)
   context_again r less = context_named r (life_named bs r) true (λ s other. again_life r bs s) c.next_region (with_scope scopes.Dynamic (regions.Variable r) c.regions)
       (known_in_dynamic c.next_region r c.regions c.locals c.result less stands.known)
@@ -178,7 +178,7 @@ known_parameters k number (t ∷ ts) vs (one, named) known =
     known_parameters k (suc number) ts (record { number = number; of_type = t; region = 0; is_place = true } ∷ vs) named
     ((all_in_weaker (IsNamed k) (IsKnown (suc k)) (λ r is. named_known k r is) t (named_in k t one), (let e : 0 < suc k = omega arith in e)), known)
 
--- The regions that the typing context of a function's body knows are declared.
+-- Each region that the typing context of a function's body lists is a declared region.
 pub known_body : (p : Program) (h : Function) → IsWellTypedFunction p h → AreKnown (suc h.variables) (body_context p h).regions (parameters_in_scope h.parameters 0 []) h.result
 known_body p h well = record {
   live = live;
@@ -314,7 +314,7 @@ never_unique (r ∷ m) (suc n) (one, apart) = λ e. never_other m n n apart e
     never_other (r ∷ m) zero n (one, apart) = one
     never_other (r ∷ m) (suc i) n (one, apart) = never_other m i n apart
 
--- no constraint mentions the unique region
+-- no outlives constraint mentions the unique region
 unmixed : (k : ℕ) (ps : List (Region × Region)) (a : Region) → AreConstraints k ps → Contains ps (a, regions.Unique) → ⊥
 unmixed k [] a named has = absurd (Contains-empty (a, regions.Unique) has)
 unmixed k (q ∷ ps) a ((first, plain, second, also), named) has = elim (Contains-cons_cases q ps (a, regions.Unique) has) [

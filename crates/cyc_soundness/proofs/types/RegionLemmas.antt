@@ -1,4 +1,4 @@
--- This file is about the lifetimes that region variables denote when a region is named, opened, or passed at a call.
+-- This file is about the lifetimes that region variables denote when a region is given its lifetime, opened, or passed at a call.
 use Rattle.std.proofs.Common.{◌≡◌, ◌≢◌, inl, inr, ℕ, suc, ◌≤◌, ◌<◌, Bool, true, false, List, [], ◌∷◌, length, eqb, refl, sym, ap, subst, ◌∙◌, arith}
 use Rattle.std.specs.Prelude.{Option, if◌then◌else◌, ◌==◌, Contains}
 use Rattle.std.proofs.lemmas.Bool.{eqb-true, eq-eqb, false_from_ne_true}
@@ -127,7 +127,7 @@ known_other n regions.Heap known = tt
 known_other n regions.Unique known = tt
 known_other n (regions.Variable m) less = λ e. (let k : m ≡ n = e in absurd (omega (arith, less, k)))
 
--- Naming a region does not change the lifetime of any other region.
+-- Giving a region variable its lifetime does not change the lifetime of any other region.
 pub other_life : (number : ℕ) (l : Life) (live : Bool) (bs : List InScope) (r : Region) → IsOther number r → lives_in bs r ≡ lives_in (Names number l live ∷ bs) r
 other_life number l live bs regions.Heap other = refl
 other_life number l live bs regions.Unique other = refl
@@ -207,7 +207,7 @@ module _ (number : ℕ) (l : Life) (alive : Bool) (c : RegionContext) (bs : List
       agrees a b (inr (inl written)) = let (one, two) = pairs a b written in moved a b one two (names.agrees a b (inr (inl written)))
       agrees a b (inr (inr old)) = let (one, two) = at_opening c.live c.opened a b old in moved a b (others a one) (others b two) (names.agrees a b (inr (inr old)))
 
--- The scope of an alias or of an opened key has a region that is older than the scope.
+-- The scope of an alias or of an opened key has a region that was opened before the scope.
 pub also_opened : (kind : Kind) (number : ℕ) (c : RegionContext) (these : ℕ → Life) (live : ℕ → Bool) → is_outlived_by_live kind ≡ false → live number ≡ true → AreNamed c these live
     → AreNamed (with_scope kind (regions.Variable number) c) these live
 also_opened kind number c these live older alive names = record { there = there; agrees = agrees; plain = opened_plain kind number c names.plain }
@@ -224,7 +224,7 @@ also_opened kind number c these live older alive names = record { there = there;
     agrees a b (inr (inr (inl (outlived, new, plain, has)))) = absurd (let z : true ≡ false = sym outlived ∙ older in cc)
     agrees a b (inr (inr (inr old))) = names.agrees a b (inr (inr old))
 
--- Naming a region again does not change its lifetime.
+-- Giving a region variable again the lifetime that it has does not change its lifetime.
 pub again_life : (number : ℕ) (bs : List InScope) (r : Region) → lives_in bs r ≡ lives_in (Names number (life_named bs number) true ∷ bs) r
 again_life number bs regions.Heap = refl
 again_life number bs regions.Unique = refl
@@ -266,7 +266,7 @@ pub known_others : (n : ℕ) (vs : List LocalInScope) → AreKnownLocals n vs �
 known_others n [] known = tt
 known_others n (v ∷ vs) ((of_type, region), known) = ((all_in_weaker (IsKnown n) (IsOther n) (known_other n) v.of_type of_type, known_other n (regions.Variable v.region) region), known_others n vs known)
 
--- A scope stays valid if the regions that it mentions keep their lifetimes.
+-- A scope stays valid if the regions in its entries keep their lifetimes.
 pub scope_kept : (n : ℕ) (j k : Lives) (vs : List LocalInScope) (bs : List InScope) → ((r : Region) → IsOther n r → j r ≡ k r) → AreOthers n vs → IsScope j vs bs → IsScope k vs bs
 scope_kept n j k vs [] same others is = is
 scope_kept n j k vs (Variable b ∷ bs) same others (rest, (v, vs_are, number, of_type, hidden, homed), is) =

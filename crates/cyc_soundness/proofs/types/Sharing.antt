@@ -1,4 +1,4 @@
--- This file is about linear and shared values: it determines the types whose values are linear resources.
+-- This file is about linear and shared values: it determines for which types the values are linear resources (keys or unique pointers).
 use Rattle.std.proofs.Common.{◌≡◌, ◌≢◌, ℕ, true, false, List, refl, subst}
 use Rattle.cyc_syntax.specs.declared.tree.PointerKind.{PointerKind}
 use Rattle.cyc_types.specs.declared.region.Region.{Region}
@@ -67,7 +67,7 @@ module _ (g : Typing) (bs : List InScope) (variables : AreVariables g bs) where
   plain_read (types.Key r) plain = absurd (let z : true ≡ false = plain in cc)
   plain_read (types.Struct n rs) plain = tt
 
-  -- A type that is not unique determines which resources its values claim.
+  -- A type that is not a unique pointer type determines alone which resources (keys or unique pointers) its values represent.
   pub unique_by_type : (t : Ty) → is_unique t ≡ false → IsByType (read bs t)
   unique_by_type types.Int plain = tt
   unique_by_type types.Char plain = tt
@@ -78,7 +78,7 @@ module _ (g : Typing) (bs : List InScope) (variables : AreVariables g bs) where
   unique_by_type (types.Key r) plain = tt
   unique_by_type (types.Struct n rs) plain = tt
 
--- A type that is not the type of a key is not read as the type of a key.
+-- A type of a tree that is not a key type becomes a run-time type that is not a key type.
 pub plain_keyless : (n : Lives) (t : Ty) → is_key t ≡ false → IsKeyless (at n t)
 plain_keyless n types.Int plain = tt
 plain_keyless n types.Char plain = tt

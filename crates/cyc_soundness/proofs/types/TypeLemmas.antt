@@ -1,5 +1,5 @@
--- This file is about types in their two forms (with regions and with lifetimes), their representation kinds
--- (int, char, pointer, ..), and conversions.
+-- This file is about types with the regions of trees and types with run-time lifetimes. The file also
+-- treats representation kinds (int, char, pointer, ..) of types, and conversions.
 use Rattle.std.proofs.Common.{◌≡◌, ◌⊎◌, inl, inr, true, List, [], ◌∷◌, map, Option, Some, None, refl, sym, ap, subst, ◌∙◌}
 use Rattle.std.specs.Prelude.{option_map}
 use Rattle.cyc_syntax.specs.declared.tree.PointerKind.{PointerKind}
@@ -84,7 +84,7 @@ same_of : (m n : Lives) (rs : List Region) → AllOf (λ r. m r ≡ n r) rs → 
 same_of m n [] same = refl
 same_of m n (r ∷ rs) (one, same) = ap (λ l. l ∷ map m rs) one ∙ ap (λ ls. n r ∷ ls) (same_of m n rs same)
 
--- If two assignments of lifetimes agree on the regions of a type, then the type is read equally under both.
+-- If two assignments of lifetimes agree on the regions of a type, then the type becomes the same run-time type under both.
 pub read_alike : (m n : Lives) (t : Ty) → AllIn (λ r. m r ≡ n r) t → at m t ≡ at n t
 read_alike m n types.Int same = refl
 read_alike m n types.Char same = refl
@@ -100,7 +100,7 @@ value_alike m n (types.Value t) same = ap Value (read_alike m n t same)
 
 -- ---- instantiation
 
--- the lifetimes of a callee's or a struct's regions, given the regions that instantiate them
+-- the lifetimes of the region parameters of a called function or of a struct, given the regions that instantiate these parameters
 abbrev pub lives_by : Lives → List Region → Lives
 lives_by n m r = n (substituted_region m r)
 
@@ -108,7 +108,8 @@ regions_by : (n : Lives) (m rs : List Region) → map n (map (substituted_region
 regions_by n m [] = refl
 regions_by n m (r ∷ rs) = ap (λ ls. lives_by n m r ∷ ls) (regions_by n m rs)
 
--- Reading a type after its regions are instantiated equals reading the type under the instantiated lifetimes.
+-- A type whose regions are instantiated becomes the same run-time type as the uninstantiated type under the
+-- lifetimes of the instantiating regions.
 pub instance_by : (n : Lives) (m : List Region) (t : Ty) → at n (substituted_ty m t) ≡ at (lives_by n m) t
 instance_by n m types.Int = refl
 instance_by n m types.Char = refl

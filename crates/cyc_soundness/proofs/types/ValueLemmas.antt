@@ -42,13 +42,13 @@ outlasts_through a b c (encloses l m ls ms us vs end more) (for_ever _) = elim e
 outlasts_through a b c (encloses l m ls ms us vs end more) (with_globals _) = elim end [ ]
 outlasts_through a b c (encloses l m ls ms us vs end more) (encloses _ n _ ns _ ws next too) = encloses l n ls ns us ws (ends_through (l ∷ ls) ms m ns end next) (λ r is. too r (more r is))
 
--- The lifetime of an object, as a pointer to the object sees it, outlasts the object's own lifetime.
+-- The lifetime that a pointer's type states for the pointer's object outlasts the object's own lifetime.
 pub lasts_itself : (object : ℕ) (l : Life) → Outlasts (life_at object l) l
 lasts_itself object (OfRegion number ns us) = alike (OfRegion number ns us)
 lasts_itself object Owned = borrows object
 lasts_itself object (Kept a) = alike (Kept a)
 
--- If the given outlives pairs hold between lifetimes, then all pairs that follow from them hold too.
+-- If the outlives pairs of a region context hold between lifetimes, then all pairs that follow from these pairs hold too.
 pub given_agree : (c : RegionContext) (n : Lives) → ((a b : Region) → IsGiven c a b → Outlasts (n a) (n b)) → AgreesWith c n
 given_agree c n agree a b (itself _) = alike (n a)
 given_agree c n agree a b (given _ _ is) = agree a b is
@@ -94,7 +94,7 @@ module _ (g : Typing) where
   pointer_zero marks.NonNull t l v is = absurd is
   pointer_zero marks.Fat t l v is = absurd is
 
-  -- A value that is tested is zero or is not zero.
+  -- A value that is tested (for zero or null) is zero or is not zero.
   pub zero_is : (n : Lives) (t : ValueType) (v : Operand) → is_tested t ≡ true → IsResult g (value_at n t) v → (b : Bool) × (is_zero v.value ≡ Some b)
   zero_is n (types.Value types.Int) v tested is = int_zero v.value is.1
   zero_is n (types.Value (types.Pointer k t r)) v tested is = pointer_zero k (at n t) (n r) v.value is.1

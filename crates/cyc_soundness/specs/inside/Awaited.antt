@@ -1,5 +1,5 @@
--- This file defines what the entries of the control stack await: the values and memory cells, the operands stored in the
--- entries, and the continuation after them.
+-- This file defines for each entry of the control stack how the run continues after it, and the operands stored in it.
+-- The file also defines the value or memory cell for which each entry of the control stack waits.
 use Rattle.std.specs.Prelude.{◌≡◌, ◌≢◌, ◌⊎◌, ℕ, suc, ◌+◌, ◌<◌, ◌≤◌, Bool, true, false, List, [], ◌∷◌, length, map, Option, Some, None, slice_get}
 use Rattle.cyc_syntax.specs.declared.tree.PointerKind.{PointerKind}
 use Rattle.cyc_syntax.specs.declared.tree.PointerKind.TheVariants as marks
@@ -36,20 +36,20 @@ use Rattle.cyc_soundness.specs.inside.Frames.{IsAmong, Bound, InScope, Variable,
 use Rattle.cyc_soundness.specs.inside.Judgements.{seen_by, Evaluates, EvaluatesWhole, Computes, Passes, Makes, Finds, Executes, Continues}
 
 pub data Want : Type 0 where
-  -- Nothing is awaited, because the run is over.
+  -- The control stack waits for nothing, because the run is over.
   Nothing : Want
-  -- A value of this type (or none, if no value is used) is awaited; the flow state after it is given.
+  -- The control stack waits for a value of this type (or none, if no value is used); the flow state after the value is given.
   Val : RunValue → flow.State → Want
-  -- A cell of this type and lifetime is awaited. It is reached through a peek of this local (a read without a move) or,
-  -- without a peek, through an operand on the stack.
+  -- The control stack waits for a cell of this type and lifetime. The cell is reached through a peek of this local (a
+  -- read without a move) or, without a peek, through an operand on the stack.
   PlaceOf : (peek : Option ℕ) → RunTy → Life → flow.State → Want
-  -- The end of a statement is awaited.
+  -- The control stack waits for the end of a statement.
   Go : flow.State → Want
 
 abbrev pub place_operand : values.Value → Operand
 place_operand place = record { kind = kinds.NonNull; value = place }
 
--- The operands that a stack entry stores while it awaits a value.
+-- The operands that a stack entry stores while it waits for a value.
 abbrev pub held : Awaiting → List Operand
 held (Apply operator left) = left ∷ []
 held (ApplyPointer peek operator left) = left ∷ []
@@ -59,18 +59,19 @@ held (Advance peek target base) = base ∷ []
 held (MakeFields owner before rest) = before
 held a = []
 
--- The number of operands that a stack entry stores; the pointer to an array under construction counts as one operand.
+-- The number of operands that a continuation frame of the control stack stores; the pointer to an array under
+-- construction counts as one operand.
 abbrev pub count_held : Awaiting → ℕ
 count_held (FillElement object count index level kind element) = 1
 count_held a = length (held a)
 
--- The number of operands that a stack entry stores while it awaits a cell; the left operand of a swap counts as one operand.
+-- The number of operands that a stack entry stores while it waits for a cell; the left operand of a swap counts as one operand.
 abbrev pub count_place : AwaitingPlace → ℕ
 count_place (SwapRight kind peek is_cell left) = 1
 count_place a = 0
 
--- The relation of a stack entry to its context: the awaited expression is complete, or it is a part of a larger expression. The value
--- also names the local, if any, that was read early (peeked at) and whose read value is not yet used.
+-- The relation of a stack entry to its context: the expression for which it waits is complete, or is a subexpression of a larger one.
+-- The relation also names the local, if any, that was read early (peeked at) and whose read value is not yet used.
 pub data Part : Type 0 where
   Whole : (peek : Option ℕ) → Part
   PartOf : (peek : Option ℕ) → Part
@@ -97,8 +98,8 @@ abbrev pub relied_by : Part → (around now : Relied) → Relied
 relied_by (Whole peek) around now = and_looked peek around
 relied_by (PartOf peek) around now = and_looked peek now
 
--- The flow states on which entries above this stack rely, given those on which catch clauses rely. A local that was read
--- early (peeked at) must not change until the read value is used.
+-- The flow states that must stay true for the entries above this stack, given those that catch clauses require. A local
+-- that was read early (peeked at) must not change until the read value is used.
 abbrev pub relied_at : Relied → List Entry → Relied
 relied_at q [] = q
 relied_at q (Needs a ∷ stack) = relied_by (part a) q (relied_at q stack)
@@ -133,7 +134,7 @@ IsCalled p bs (callees.Function number) ts r =
 abbrev pub AreFields : Program → (struct : ℕ) → List Life → List RunTy → Type 0
 AreFields p n ls ts = (s : StructType) × (slice_get p.structs n ≡ Some s) × (length ls ≡ s.parameters) × (ts ≡ map (at (lives_among ls)) s.fields) × AreKeyless ts
 
--- Says that a local of this type may be declared next.
+-- Says that the next declaration may declare a local of this type.
 abbrev pub IsNew : Context → Ty → Type 0
 IsNew c t = IsDeclarable c.next_region t × IsLive c (regions.Variable c.region)
 
@@ -166,23 +167,23 @@ pub record Repeats (q : Relied) (c : Context) (level : ℕ) (kind : Kind) (eleme
   pub back : Implies now f
   pub plain : is_key t ≡ false
 
--- Says that a region that outlives a region with a unique lifetime also denotes a unique lifetime.
+-- Says that a region that outlives a region with the lifetime of a unique object also denotes the lifetime of a unique object.
 abbrev pub KeepsUnique : RegionContext → (Region → Life) → Type 0
 KeepsUnique c n = (a b : Region) → OutlivesIn c a b → n b ≡ Owned → n a ≡ Owned
 
--- Says that a value is not a linear resource, which would have a single holder.
+-- Says that a value is not a linear resource (a key or a unique pointer), which would have a single owner.
 abbrev pub IsPlainValue : RunValue → Type 0
 IsPlainValue (Value t) = IsPlain t
 IsPlainValue r = Unit {0}
 
--- Says that the remaining operators of a chain fit the left operand. If the operand is a peek (a read that does not move a local's value),
--- then the next operator must only look at it.
+-- Says that the operators that are still to be applied fit the left operand. If the operand is a peek (a read that does not move a local's
+-- value), then the next operator must only look at it.
 abbrev pub IsChained : Option ℕ → RunValue → Operations → Type 0
 IsChained peek r (ThenTest o a os) = Unit {0}
 IsChained peek r (ThenPointerPeek n o a os) = (peek ≡ Some n) ⊎ ((peek ≡ None) × IsPlainValue r)
 IsChained peek r os = peek ≡ None
 
--- Says that a pointer of this type is the value through which a cell is reached.
+-- Says that a run-time value is a pointer of this type, read by a peek or not, through which a cell is reached.
 abbrev pub IsThrough : Option ℕ → RunTy → RunValue → Type 0
 IsThrough peek t r = (r ≡ looked peek (Value t)) ⊎ (r ≡ Into peek t)
 
@@ -191,13 +192,13 @@ abbrev pub IsCommonLife : Life → Type 0
 IsCommonLife Owned = ⊥
 IsCommonLife l = Unit {0}
 
--- Says that the type alone determines if a value claims a resource: the type is not a unique pointer.
+-- Says that the type alone determines if its values represent a linear resource: the type is not a unique pointer.
 abbrev pub IsByType : RunTy → Type 0
 IsByType (lives.Pointer k t l) = IsCommonLife l
 IsByType t = Unit {0}
 
--- The typing of a stack entry that awaits a value. The typing consists of the types of the entry's stored operands, the awaited
--- value, the value with which the run continues, and the scope.
+-- The typing of a stack entry that waits for a value. The typing of such an entry consists of the types of its stored operands,
+-- the awaited value's type, the value passed on, and the scope.
 pub data Waits (p : Program) (x : Exits) (q : Relied) (bs : List InScope) : Awaiting → List RunTy → RunValue → flow.State → List InScope → Want → Type 0 where
   converts : {from to : Kind} {target : Option Kind} (c : Context) (v : ValueType) (t : Ty) (f : flow.State) → AgreesWith c.regions (lives_in bs) → KeepsUnique c.regions (lives_in bs) → Converts c v t → from ≡ kind_of_value v → to ≡ kind_of t → target ≡ target_of_value v
       → Waits p x q bs (ConvertTo from to target) [] (read_value bs v) f bs (Val (Value (read bs t)) f)
@@ -266,7 +267,7 @@ pub data Waits (p : Program) (x : Exits) (q : Relied) (bs : List InScope) : Awai
       → Continues (lending x lent) (with_local true t (with_opened scopes.Alias c)) js (with_fullness Full (with_fullness Locked f lent) number) h
       → Implies (with_fullness Full h lent) i → Waits p x q bs (AliasOf number lent js) [] (Seen b.object (read bs u)) f cs (Go i)
 
--- The typing of a stack entry that awaits a cell of this type and lifetime, with the continuation after it.
+-- The typing of a stack entry that waits for a cell of this type and lifetime, and for the way the run continues after it.
 pub data WaitsPlace (p : Program) (x : Exits) (q : Relied) (bs : List InScope) : AwaitingPlace → Option ℕ → RunTy → Life → flow.State → Want → Type 0 where
   loads_from : {kind : Kind} (peek : Option ℕ) (t : Ty) (r : Region) (f : flow.State) → IsThere bs r → IsByType (read bs t) → is_struct t ≡ false → kind ≡ values.kind_of t
       → WaitsPlace p x q bs (LoadFrom kind) peek (read bs t) (lives_in bs r) f (Val (Value (read bs t)) f)
@@ -287,22 +288,24 @@ IsArray g t l object count index =
     (y : ObjectType) × (slice_get g.objects object ≡ Some y) × (y.is_hidden ≡ false) × (y.life ≡ l)
     × ((i : ℕ) → i < count → slice_get y.cells i ≡ Some t) × IsFilled g object index × (index ≤ count)
 
--- Says that an array is under construction and that an operand on the stack holds the pointer to it.
+-- Says that an array is under construction and that an operand on the stack owns the pointer to it.
 abbrev pub IsArrayOf : Typing → (hand : ℕ) → List RunTy → (object count index : ℕ) → Type 0
 IsArrayOf g i (lives.Pointer m t l ∷ []) object count index = (index < count) × IsArray g t l object count index × Owns g.own (Hand i) (pointer_at l object)
 IsArrayOf g i ts object count index = ⊥
 
--- Says that operands stored on the stack (newest first), above `below` other operands, claim their resources.
+-- Says that operands stored on the stack (newest first), above `below` other operands, own the resources
+-- (keys and unique pointers) that they represent.
 abbrev pub AreClaimed : (own : Thing → Holder) → (below : ℕ) → List RunTy → List Operand → Type 0
 AreClaimed own i (t ∷ ts) (v ∷ vs) = Claims own (Hand (i + length ts)) t v.value × AreClaimed own i ts vs
 AreClaimed own i ts vs = Unit {0}
 
--- Says that arguments in order, the first of which has the stack index `place`, claim their resources.
+-- Says that arguments in order, the first of which has the stack index `place`, own the resources
+-- (keys and unique pointers) that they represent.
 abbrev pub AreGiven : (own : Thing → Holder) → (place : ℕ) → List RunTy → List Operand → Type 0
 AreGiven own i (t ∷ ts) (v ∷ vs) = Claims own (Hand i) t v.value × AreGiven own (suc i) ts vs
 AreGiven own i ts vs = Unit {0}
 
--- Says that a single operand claims the resource into which it points.
+-- Says that a single operand, or the peeked local from which it was read, owns the resource into which the operand points.
 abbrev pub IsHeldPart : Typing → (hand : ℕ) → (peek : Option ℕ) → List RunTy → Operand → Type 0
 IsHeldPart g i peek [] v = Unit {0}
 IsHeldPart g i peek (t ∷ ts) v = ClaimsPart g i peek (thing_of t v.value)
@@ -314,7 +317,7 @@ operands_in (Needs a ∷ stack) = count_held a + operands_in stack
 operands_in (NeedsPlace a ∷ stack) = count_place a + operands_in stack
 operands_in (entry ∷ stack) = operands_in stack
 
--- Says that the value passed to this stack claims its resource as the newest operand.
+-- Says that the value passed to this stack, as its newest operand, owns the resource (key or unique pointer) that it represents.
 abbrev pub Comes : Typing → RunValue → Operand → List Entry → Type 0
 Comes g r v stack = ClaimsBy g (operands_in stack) r v.value
 
@@ -330,8 +333,8 @@ Keeps g i a (t ∷ ts) = AreOperands g (t ∷ ts) (held a) × AreClaimed g.own i
 
 -- ---- swaps
 
--- The left or right operand of a swap after its evaluation: a variable that is full in this flow state, or a cell to which
--- a pointer points.
+-- The left or right operand of a swap after its evaluation: a variable whose value is not lent in this flow state, or a
+-- cell to which a pointer points.
 pub data IsSpot (p : Program) (g : Typing) (bs : List InScope) (t : Ty) (f : flow.State) : values.Value → Type 0 where
   of_local : (b : Bound) → IsAmong (Variable b) bs → b.of_type ≡ read bs t → IsFullIn f b.number → IsSpot p g bs t f (values.Thin b.object 0)
   of_global : (number : ℕ) → slice_get (map (λ (v : GlobalVariable). v.of_type) p.globals) number ≡ Some t → read bs t ≡ at as_heap t
@@ -352,7 +355,7 @@ abbrev pub KeepsPlace : Program → Typing → (hand : ℕ) → List InScope →
 KeepsPlace p g i bs (SwapRight kind peek is_cell left) r f = (t : Ty) × (r ≡ read bs t) × (is_struct t ≡ false) × IsLeftSpot p g i peek bs t f left
 KeepsPlace p g i bs a r f = Unit {0}
 
--- Says that a value claims its resource as the value stored in this cell.
+-- Says that a value owns the resource (key or unique pointer) that it represents as the value stored in this cell.
 abbrev pub ClaimsAt : (own : Thing → Holder) → (place : values.Value) → RunTy → values.Value → Type 0
 ClaimsAt own (values.Thin object offset) t v = Claims own (At object offset) t v
 ClaimsAt own place t v = ⊥
@@ -366,13 +369,13 @@ IsRead g left t (Some v) = IsResult g (Value t) v × ClaimsAt g.own left t v.val
 abbrev pub IsWrite : Program → Typing → List InScope → flow.State → Ty → Write → Type 0
 IsWrite p g bs f t w = (is_struct t ≡ false) × IsSpot p g bs t f w.place × IsResult g (Value (read bs t)) w.operand
 
--- Says that a swap has not yet performed its second write, to this cell.
+-- Says that a swap still has to perform its second write, which is to this cell.
 abbrev pub IsAwaited : Typing → (place : values.Value) → Type 0
 IsAwaited g (values.Thin object offset) = g.pending ≡ Awaits object offset
 IsAwaited g place = ⊥
 
--- Says that the two writes of a swap are well-typed. After the first write, an operand holds the old value of the left cell, and the
--- right cell awaits its value.
+-- Says that the two writes of a swap are well-typed. After the first write, an operand holds the old value of the left operand's
+-- cell, which the second write stores in the right operand's cell.
 abbrev pub AreSwapped : Program → Typing → (hand : ℕ) → List InScope → flow.State → List Write → Type 0
 AreSwapped p g i bs f [] = g.pending ≡ Settled
 AreSwapped p g i bs f (w ∷ []) = (t : Ty) × IsWrite p g bs f t w × IsAwaited g w.place × Claims g.own (Hand i) (read bs t) w.operand.value

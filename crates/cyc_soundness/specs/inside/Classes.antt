@@ -1,5 +1,5 @@
--- This file defines the class of programs that the proof covers: a predicate on typed trees. The trees that the typing rules derive
--- from texts are in this class.
+-- This file defines the class of programs that the soundness proof covers: a predicate on typed trees. The trees that the typing
+-- rules derive from texts are in this class of programs.
 use Rattle.std.specs.Prelude.{◌≡◌, ℕ, zero, suc, ◌+◌, Bool, true, false, List, [], ◌∷◌, Option, Some, None, get_or, ◌&&◌, ◌||◌}
 use Rattle.cyc_types.specs.Types.{Ty, ValueType, Void}
 use Rattle.cyc_types.specs.Declarations.{declared_regions, item_regions}
@@ -16,7 +16,7 @@ use Rattle.cyc_soundness.specs.inside.Lives.{AllIn, IsKnown}
 abbrev pub IsDeclarable : ℕ → Ty → Type 0
 IsDeclarable n t = AllIn (IsKnown n) t
 
--- The flow states at the starts of the catch clauses of each enclosing `try`, on which these clauses rely.
+-- For each enclosing `try`, the flow state at the start of its catch clauses, which these clauses require.
 abbrev pub Relied : Type 0
 Relied = List flow.State
 
@@ -25,7 +25,7 @@ abbrev pub is_full : Fullness → Bool
 is_full Full = true
 is_full a = false
 
--- Says that a flow state does not rely on this local holding a value that is not lent.
+-- Says that a flow state does not require this local to hold a value that is not lent.
 abbrev pub IsSparedBy : flow.State → ℕ → Type 0
 IsSparedBy Unreached n = Unit {0}
 IsSparedBy (Reached as') n = is_full (get_or as' n Vacant) ≡ false
@@ -39,12 +39,12 @@ abbrev pub only : ℕ → List Fullness
 only zero = Full ∷ []
 only (suc n) = Vacant ∷ only n
 
--- The flow states on which stack entries rely, extended by a local that was read early (peeked at) and whose value is not yet used.
+-- The flow states that stack entries require, extended by a local that was read early (peeked at) and whose value is not yet used.
 abbrev pub and_looked : Option ℕ → Relied → Relied
 and_looked None q = q
 and_looked (Some n) q = Reached (only n) ∷ q
 
--- Says that no flow state relies on a local to which a unique pointer or a key is assigned.
+-- Says that no flow state requires a local to hold its value if a unique pointer or a key is assigned to the local.
 abbrev pub SparesAssigned : Relied → Lvalue → ValueType → Type 0
 SparesAssigned q (Local p n) Void = IsSpared q n
 SparesAssigned q l t = Unit {0}
@@ -87,9 +87,9 @@ Asked true A = A
 
 -- ---- the class
 
--- All forms of the language are in the class. Enclosing catch clauses do not rely on a local that is consumed, lent, or assigned a value
--- with a single owner. At the start of a function there are no such clauses, and for the body of a `try` the condition is proved. For
--- unreachable code, the condition requires nothing.
+-- All forms of the language are in the class of programs that the proof covers. Enclosing catch clauses do not require a value of a
+-- local that is consumed, lent, or assigned a value with a single owner. At the start of a function there are no such clauses, and for
+-- the body of a `try` the condition is proved. For unreachable code, the condition requires nothing.
 abbrev mutual
   pub InExpression : Relied → Expression → Type 0
   InExpression q (Number n) = Unit {0}
@@ -153,8 +153,8 @@ abbrev pub InSide : Relied → Side → Type 0
 InSide q (VariableSide l t) = Unit {0}
 InSide q (CellSide d) = InPlace q d
 
--- Says that statements in which the next region has index n are in the class: the types of locals mention only
--- regions declared before them.
+-- Says that statements are in the class that the proof covers, if the next region has index n. The types of
+-- locals in such statements mention only regions declared before them.
 abbrev mutual
   pub InStatement : Relied → ℕ → Statement → Type 0
   InStatement q n (Block r js) = InItems q (suc n) js
@@ -201,6 +201,6 @@ abbrev pub InStructs : List StructType → Type 0
 InStructs [] = Unit {0}
 InStructs (s ∷ ss) = InFields s.parameters s.fields × InStructs ss
 
--- Says that a program is in the class.
+-- Says that a program is in the class of programs that the soundness proof covers.
 abbrev pub IsInClass : Program → Type 0
 IsInClass p = InFunctions p.functions × InGlobals p.globals × InStructs p.structs

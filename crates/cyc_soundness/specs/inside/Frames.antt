@@ -28,11 +28,11 @@ pub record Bound : Type 0 where
   -- True if no pointer may point to the object.
   pub is_hidden : Bool
 
--- The type of a local's object, in a call that `depth` other calls enclose.
+-- The type of a local's object, in a call that `depth` other calls enclose on the call stack.
 abbrev pub local_type : (depth : ℕ) → Bound → ObjectType
 local_type d b = variable_type b.of_type b.life b.is_hidden (OfLocal d b.number)
 
--- An entry of a scope: a local, the loop counter of an array, a region variable, the region variables of a call, or the region of a block.
+-- An entry of a scope: a local, the loop counter of an array, a region variable, all region variables of a call, or the region of a block.
 pub data InScope : Type 0 where
   Variable : Bound → InScope
   -- The loop counter that an enclosing array with `for` uses to fill its elements.
@@ -41,7 +41,7 @@ pub data InScope : Type 0 where
   Names : (number : ℕ) → Life → (is_live : Bool) → InScope
   -- The lifetimes that all region variables of a call denote; the second function tells which of them are live.
   Instance : (ℕ → Life) → (ℕ → Bool) → InScope
-  -- the region that contains the variables of the innermost block
+  -- the region in which the variables of the innermost block are stored
   Home : (region : ℕ) → InScope
 
 -- ---- regions
@@ -67,7 +67,7 @@ is_live_named (Home region ∷ bs) k = is_live_named bs k
 abbrev pub lives_in : List InScope → Lives
 lives_in bs = lives_of (λ n. life_named bs n)
 
--- The run-time type of a type when its regions are read in this scope.
+-- The run-time type that a type of a tree becomes when its regions denote the lifetimes of this scope.
 abbrev pub read : List InScope → Ty → RunTy
 read bs t = at (lives_in bs) t
 
@@ -84,7 +84,7 @@ IsThereBy live (regions.Variable n) = live n ≡ true
 abbrev pub IsThere : List InScope → Region → Type 0
 IsThere bs r = IsThereBy (λ n. is_live_named bs n) r
 
--- the number that identifies the region that contains the variables in this scope
+-- the number that identifies the region in which new variables of this scope are stored
 abbrev pub home_of : List InScope → ℕ
 home_of [] = globals_number
 home_of (Home region ∷ bs) = region
@@ -92,22 +92,22 @@ home_of (b ∷ bs) = home_of bs
 
 -- ---- locals
 
--- Says that the lifetime of a local is the lifetime of its block's region.
+-- Says that the lifetime of a local is that of the region of the block that declares it.
 abbrev pub IsHomed : Lives → (region : ℕ) → Life → Type 0
 IsHomed m region l = l ≡ m (regions.Variable region)
 
--- Says that the scope entry is the newest local of the typing context, followed by the rest of the locals.
+-- Says that this scope entry is the newest local of the typing context, and that the other scope entries match the context's older locals.
 abbrev pub IsNewest : Lives → List LocalInScope → InScope → (rest : List LocalInScope) → Type 0
 IsNewest m vs (Variable b) rest =
     (v : LocalInScope) × (vs ≡ v ∷ rest) × (v.number ≡ b.number) × (at m v.of_type ≡ b.of_type) × (is_moved v.of_type ≡ b.is_hidden) × IsHomed m v.region b.life
 IsNewest m vs b rest = vs ≡ rest
 
--- Says that the scope matches the locals of the typing context.
+-- Says that the locals of the scope at run time are those of the typing context.
 abbrev pub IsScope : Lives → List LocalInScope → List InScope → Type 0
 IsScope m vs [] = vs ≡ []
 IsScope m vs (b ∷ bs) = (rest : List LocalInScope) × IsNewest m vs b rest × IsScope m rest bs
 
--- Says that the index of a local is below n.
+-- Says that the index of a scope entry that is a local is below n.
 abbrev pub IsBelow : ℕ → InScope → Type 0
 IsBelow n (Variable b) = b.number < n
 IsBelow n b = Unit {0}
@@ -126,8 +126,8 @@ abbrev pub IsBound : (locals counters : ℕ → Option ℕ) → List InScope →
 IsBound locals counters [] = Unit {0}
 IsBound locals counters (b ∷ bs) = HasMeaning locals counters b × IsBound locals counters bs
 
--- Says that the objects of locals are variables of the right types. Region variables denote lifetimes that the typing knows,
--- and the lifetimes of live region variables are open.
+-- Says that the objects of locals are variables of the right types. Region variables denote lifetimes that the typing of the
+-- heap state contains, and the lifetimes of live region variables are open.
 abbrev pub IsOfVariable : Typing → InScope → Type 0
 IsOfVariable g (Variable b) = (slice_get g.objects b.object ≡ Some (local_type g.depth b)) × IsOpenIn g b.life
 IsOfVariable g (Names number life live) = IsKnownLife g life × (live ≡ true → IsOpenIn g life)
@@ -138,13 +138,13 @@ abbrev pub AreVariables : Typing → List InScope → Type 0
 AreVariables g [] = Unit {0}
 AreVariables g (b ∷ bs) = IsOfVariable g b × AreVariables g bs
 
--- Says that a lifetime lasts to the end of one of the regions that stack entries will close, or for ever.
+-- Says that a lifetime lasts to the end of one of the regions that are closed when the stack is unwound, or for ever.
 abbrev pub IsLasting : List ℕ → Life → Type 0
 IsLasting regions (OfRegion number around lent) = (OfRegion number around lent ≡ heap_life) ⊎ IsEndOf (number ∷ around) regions
 IsLasting regions (Kept a) = Unit {0}
 IsLasting regions l = ⊥
 
--- Says that the lifetime of a live scope entry has not ended.
+-- Says that the lifetime in this entry of a scope has not ended, if the entry is marked as live.
 abbrev pub IsLiveIn : List ℕ → InScope → Type 0
 IsLiveIn regions (Variable b) = IsLasting regions b.life
 IsLiveIn regions (Names number life live) = live ≡ true → IsLasting regions life
@@ -162,7 +162,7 @@ home_in (CloseRegion region outer ∷ stack) = region
 home_in (Caller outer ∷ stack) = globals_number
 home_in (entry ∷ stack) = home_in stack
 
--- Says that the lifetimes of the live entries of a scope last at least until this stack is reached again.
+-- Says that the lifetimes of the live entries of a scope last at least until all stack entries above this stack are unwound.
 abbrev pub LiveIn : List Entry → List InScope → Type 0
 LiveIn stack bs = AreLiveIn (ends_of stack) bs × (home_of bs ≡ home_in stack)
 
@@ -171,7 +171,7 @@ abbrev pub IsInner : InScope → Type 0
 IsInner (Home region) = ⊥
 IsInner b = Unit {0}
 
--- Says that the first scope is an outer scope of the second scope in the same block.
+-- Says that the second scope is the first scope with newer entries of the same block added, if any.
 pub data Within : (outer inner : List InScope) → Type 0 where
   itself : (bs : List InScope) → Within bs bs
   older : (b : InScope) (bs cs : List InScope) → IsInner b → Within bs cs → Within bs (b ∷ cs)
@@ -194,7 +194,7 @@ abbrev pub AreSet : Typing → flow.State → List InScope → Type 0
 AreSet g f [] = Unit {0}
 AreSet g f (b ∷ bs) = HoldsIts g f b × AreSet g f bs
 
--- Says that the facts of a flow state hold, so the state is reachable.
+-- Says that the run satisfies the facts of a flow state about locals, so this flow state is reachable.
 abbrev pub Holds : Typing → flow.State → List InScope → Type 0
 Holds g f bs = (is_reached f ≡ true) × AreSet g f bs
 
@@ -206,7 +206,7 @@ pub record Implies (f h : flow.State) : Type 0 where
 
 -- ---- exits of control
 
--- An enclosing loop: the flow states at its head, and at the breaks that leave it.
+-- An enclosing loop: the flow states at its head, and at the `break` statements that leave it.
 pub record LoopExit : Type 0 where
   pub place : Place
   pub head : flow.State
@@ -216,11 +216,11 @@ pub record Exits : Type 0 where
   pub loop : Option LoopExit
   -- The result type of the enclosing function.
   pub result : Option Ty
-  -- The result type of the function as the caller reads it.
+  -- The result type of the function as a run-time type, with the lifetimes of the caller.
   pub gives : RunValue
   -- the locals that declarations and statements have lent since the start of the enclosing loop's body
   pub locks : List ℕ
-  -- The flow states on which the catch clauses of enclosing `try` statements and the ends of enclosing loans rely, innermost first.
+  -- The flow states that the catch clauses of enclosing `try` statements and the ends of enclosing loans require, innermost first.
   pub relied : Relied
 
 -- Says that a function without a result returns no value.
@@ -235,7 +235,7 @@ loop_of (Some l) = Some (record { place = l.place; head = l.head })
 abbrev pub around : Exits → Around
 around x = record { loop = loop_of x.loop; locks = x.locks }
 
--- The possible exits of control while one more local is lent; the end of the loan relies on this local.
+-- The possible exits of control while one more local is lent; the end of the loan requires that this local is still lent.
 abbrev pub lending : Exits → ℕ → Exits
 lending x n = record x { locks = x.locks ++ n ∷ []; relied = Reached (only n) ∷ x.relied }
 
@@ -243,7 +243,7 @@ lending x n = record x { locks = x.locks ++ n ∷ []; relied = Reached (only n) 
 abbrev pub relying : Exits → flow.State → Exits
 relying x f = record x { relied = f ∷ x.relied }
 
--- Says that if this scope entry is the local with the given index, then it holds a value and its object is the given one.
+-- Says that if this scope entry is the local with the given index, it holds a value, and its object has the given number.
 abbrev pub IsFullAt : Typing → (number object : ℕ) → InScope → Type 0
 IsFullAt g n object (Variable b) = b.number ≡ n → IsFull g b.object × (b.object ≡ object)
 IsFullAt g n object b = Unit {0}
@@ -252,7 +252,7 @@ abbrev pub AreFullAt : Typing → (number object : ℕ) → List InScope → Typ
 AreFullAt g n object [] = Unit {0}
 AreFullAt g n object (b ∷ bs) = IsFullAt g n object b × AreFullAt g n object bs
 
--- Says that the flow state at the breaks so far implies the state after the loop.
+-- Says that the joined flow state at the `break` statements so far implies the state after the loop.
 abbrev pub AreBreaks : Option LoopExit → flow.State → Type 0
 AreBreaks None b = Unit {0}
 AreBreaks (Some l) b = Implies b l.breaks
@@ -274,7 +274,7 @@ pub record AreNamed (c : RegionContext) (these : ℕ → Life) (live : ℕ → B
 abbrev pub Stand : RegionContext → List InScope → Type 0
 Stand c bs = AreNamed c (λ n. life_named bs n) (λ n. is_live_named bs n)
 
--- Says that the variables of the innermost block are in the region that this region variable denotes.
+-- Says that the variables of the innermost block are stored in the region that this region variable denotes.
 abbrev pub IsHome : (region : ℕ) → List InScope → Type 0
 IsHome region bs = IsNumber (life_named bs region) (home_of bs) × (is_live_named bs region ≡ true)
 
@@ -289,7 +289,7 @@ pub record AreKnown (n : ℕ) (c : RegionContext) (vs : List LocalInScope) (resu
   pub locals : AreKnownLocals n vs
   pub gives : AllInValue (IsKnown n) (result_type result)
 
--- Says that a typing context is that of a tree in a function of this program, with these exits and this scope.
+-- Says that a typing context is valid for a tree in a function of this program, given the possible exits of control and the scope.
 pub record IsContext (p : Program) (x : Exits) (bs : List InScope) (c : Context) : Type 0 where
   pub globals : c.globals ≡ map (λ (g : GlobalVariable). g.of_type) p.globals
   pub functions : c.functions ≡ map signature_of p.functions
@@ -310,17 +310,18 @@ pub record IsContext (p : Program) (x : Exits) (bs : List InScope) (c : Context)
 abbrev pub lives_among : List Life → Lives
 lives_among ls = lives_of (λ n. slice_index_or ls n heap_life)
 
--- Says that the typing knows the program: its globals are the first objects, and its structs have the cells of their fields.
+-- Says that the typing of the heap state agrees with the program. Its first objects are the program's globals, and its
+-- structs have the cells of their fields.
 pub record KnowsProgram (g : Typing) (p : Program) : Type 0 where
   pub globals : (number : ℕ) (t : Ty) → slice_get (map (λ (v : GlobalVariable). v.of_type) p.globals) number ≡ Some t
       → (slice_get g.objects number ≡ Some (global_type (at as_heap t))) × IsFull g number × IsDeclarable 0 t
   pub structs : (number : ℕ) (s : StructType) (ls : List Life) → slice_get p.structs number ≡ Some s → length ls ≡ s.parameters
       → g.fields number ls ≡ Some (map (at (lives_among ls)) s.fields)
-  -- The number of lifetimes of a struct equals the number of the struct's region parameters.
+  -- A struct type has as many lifetimes as the struct has region parameters.
   pub counts : (number : ℕ) (s : StructType) (ls : List Life) (ts : List RunTy) → slice_get p.structs number ≡ Some s → g.fields number ls ≡ Some ts → length ls ≡ s.parameters
-  -- No field of a struct is a key.
+  -- No field of a struct is the key of a dynamic region.
   pub plain : (number : ℕ) (s : StructType) → slice_get p.structs number ≡ Some s → (field : ℕ) (t : Ty) → slice_get s.fields field ≡ Some t → is_key t ≡ false
-  -- No constraint of a function mentions the unique region.
+  -- No outlives constraint of a function mentions the unique region.
   pub constraints : (number : ℕ) (h : Function) → slice_get p.functions number ≡ Some h → AreConstraints h.variables h.constraints
   -- The field types of a struct mention only the struct's region parameters.
   pub fields : (number : ℕ) (s : StructType) → slice_get p.structs number ≡ Some s → (field : ℕ) (t : Ty) → slice_get s.fields field ≡ Some t → IsDeclarable s.parameters t

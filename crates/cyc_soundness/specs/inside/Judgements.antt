@@ -1,5 +1,5 @@
--- This file defines judgements of typed trees with their flow states before and after: each entry of the control stack stores both
--- its typing and its flow judgement.
+-- This file defines judgements of typed trees with the flow states before and after them. Each entry of the control stack stores
+-- both the typing judgement and the flow judgement of its tree.
 use Rattle.std.specs.Prelude.{◌≡◌, ◌⊎◌, ℕ, suc, true, false, List, [], Option, Some, None}
 use mathlib.Core.Logic.{inl, inr}
 use Rattle.cyc_syntax.specs.declared.tree.PointerKind.{PointerKind}
@@ -51,14 +51,15 @@ pub record Locates (q : Relied) (c : Context) (d : Dereference) (f : flow.State)
   pub flows : Derives (rule_place waiting d f) h
   pub kept : InPlace q d
 
--- The typing and flow judgement of the initial values of an object of this type; k is the kind of the pointer to it.
+-- The typing and flow judgement of the initial values of an object of this type; k is the kind (nullable, non-null
+-- or fat) of the pointer to it.
 pub record Makes (q : Relied) (c : Context) (i : Initial) (k : PointerKind) (t : Ty) (f h : flow.State) : Type 0 where
   pub waiting : List ℕ
   pub typed : IsMade c i k t
   pub flows : Derives (rule_initial waiting i f) h
   pub kept : InInitial q i
 
--- The typing and flow judgement of the left or right operand of a swap of this type; the resulting state is the state after both
+-- The typing and flow judgement of the left or right operand of a swap of this type; the resulting flow state is that after both
 -- operands were evaluated.
 pub record Finds (q : Relied) (c : Context) (y : Side) (f : flow.State) (t : Ty) (h : flow.State) : Type 0 where
   pub waiting : List ℕ
@@ -67,7 +68,7 @@ pub record Finds (q : Relied) (c : Context) (y : Side) (f : flow.State) (t : Ty)
   pub used : AllKept (side_demanded waiting y h)
   pub kept : InSide q y
 
--- The typing and flow judgement of a statement, with the flow state after it and the state at its breaks.
+-- The typing and flow judgement of a statement, with the flow state after it and the flow state at its `break` statements.
 pub record Executes (x : Exits) (c : Context) (s : Statement) (f h : flow.State) : Type 0 where
   pub before : flow.State
   pub following : flow.State
@@ -76,8 +77,8 @@ pub record Executes (x : Exits) (c : Context) (s : Statement) (f h : flow.State)
   pub breaks : AreBreaks x.loop following
   pub kept : InStatement x.relied c.next_region s
 
--- The typing and flow judgement of the rest of a block; at its end, the locals that its declarations and statements have
--- locked are full again.
+-- The typing and flow judgement of the rest of a block. At the end of the block, the locals that its declarations and
+-- statements have locked hold values that are not lent.
 pub record Continues (x : Exits) (c : Context) (js : Items) (f h : flow.State) : Type 0 where
   pub before : flow.State
   pub following : flow.State

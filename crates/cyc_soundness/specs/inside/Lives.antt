@@ -22,9 +22,9 @@ pub data Thing : Type 0 where
 -- lent resources last at least as long as the region.
 pub data Life : Type 0 where
   OfRegion : (region : ℕ) → (around : List ℕ) → (lent : Thing → Bool) → Life
-  -- The lifetime of a unique object: it lasts until the holder of the unique pointer frees the object.
+  -- The lifetime of a unique object: it lasts until the object is freed through its unique pointer.
   Owned : Life
-  -- A lifetime that no scope ends: that of a dynamic region, or of a unique object while it is lent.
+  -- A lifetime that the end of no scope ends: that of a dynamic region, or of a unique object while it is lent.
   Kept : Thing → Life
 
 pub data RunTy : Type 0 where
@@ -63,7 +63,7 @@ value_at m types.Void = Void
 value_at m types.Null = Null
 value_at m (types.Value t) = Value (at m t)
 
--- The run-time type of a value that was reached through a peek of this local (a read without a move), if a local is given.
+-- The run-time type of a value; if a local is given, the value was reached through a peek of this local (a read without a move).
 abbrev pub looked : Option ℕ → RunValue → RunValue
 looked None r = r
 looked (Some n) (Value t) = Into (Some n) t
@@ -90,7 +90,8 @@ lives_of m regions.Heap = heap_life
 lives_of m regions.Unique = Owned
 lives_of m (regions.Variable n) = m n
 
--- The lifetimes for reading a type without region variables, such as a global's type: each variable is read as the heap.
+-- The lifetimes with which a type without region variables, such as a global's type, becomes a run-time type: each
+-- region variable denotes the heap.
 abbrev pub as_heap : Lives
 as_heap r = lives_of (λ n. heap_life) r
 

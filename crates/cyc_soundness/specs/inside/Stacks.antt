@@ -1,5 +1,5 @@
--- This file defines the typing of states. Each entry of the control stack has a type from what it awaits to what it passes on. The scope
--- is an index of this typing, from which an entry may drop the newest locals.
+-- This file defines the typing of run states. Each entry of the control stack is typed by the value for which it waits and the value
+-- that it passes on. The scope is an index of this typing, from which an entry may drop the newest locals.
 use Rattle.std.specs.Prelude.{◌≡◌, ℕ, zero, suc, ◌+◌, ◌≤◌, Bool, true, false, List, [], ◌∷◌, length, map, Option, Some, None, slice_get}
 use Rattle.cyc_syntax.specs.declared.tree.PointerKind.TheVariants as marks
 use Rattle.cyc_types.specs.declared.region.Region.{Region}
@@ -32,7 +32,7 @@ abbrev pub IsBlocked : Option Ty → flow.State → Type 0
 IsBlocked None f = Unit {0}
 IsBlocked (Some t) f = is_reached f ≡ false
 
--- Says that the newest loan lends the value of this variable, to which no pointer may point.
+-- Says that this variable has lent its value in the newest loan, and that no pointer may point to this variable.
 abbrev pub IsLentOut : Typing → (lent loan : ℕ) → RunTy → (object : ℕ) → Type 0
 IsLentOut g lent j t object = (l : Life) × (slice_get g.objects object ≡ Some (variable_type t l true (OfLocal g.depth lent))) × (g.here object ≡ Away j)
 
@@ -53,7 +53,7 @@ IsStack p g x bs (Go f) (Loop condition body ∷ k) =
 IsStack p g x bs (Go f) (CloseRegion region home ∷ k) =
     (cs : List InScope) × (number : ℕ) × (l : Life) × (live : Bool) × (h : flow.State) × (bs ≡ Home region ∷ Names number l live ∷ cs) × Implies f h × LiveIn k cs × IsStack p g x cs (Go h) k
 IsStack p g x bs (Go f) (CloseLexical region ∷ k) = (h : flow.State) × Implies f h × LiveIn k bs × IsStack p g x bs (Go h) k
--- After the end of a loan, its resource is no longer lent.
+-- After the end of a loan, the resource (key or unique pointer) that was on loan is no longer lent.
 IsStack p g x bs (Go f) (EndLoan lent ∷ k) =
     (y : Exits) × (h : flow.State) × (j : ℕ) × (t : RunTy) × (object : ℕ) × (x ≡ lending y lent) × (g.loans ≡ suc j) × IsLentOut g lent j t object × Implies (with_fullness Full f lent) h × AreFullAt g lent object bs
     × AreVariables (record g { loans = j }) bs
@@ -69,7 +69,7 @@ IsStack p g x bs w k = ⊥
 
 -- ---- new objects
 
--- Says that the operands are values for the cells from offset `offset` on.
+-- Says that the operands fit the types of an object's cells from offset `offset` on.
 abbrev pub AreNext : Typing → (offset : ℕ) → List RunTy → List Operand → Type 0
 AreNext g zero ts vs = AreOperands g ts vs
 AreNext g (suc i) [] vs = ⊥
@@ -81,13 +81,13 @@ AreNextGiven own i zero ts vs = AreGiven own i ts vs
 AreNextGiven own i (suc o) [] vs = Unit {0}
 AreNextGiven own i (suc o) (t ∷ ts) vs = AreNextGiven own i o ts vs
 
--- Says that an object of this type is a complete value of this run-time type.
+-- Says that an object whose cells have the types of this object type is a complete value of this run-time type.
 abbrev pub IsWhole : Typing → ObjectType → RunTy → Type 0
 IsWhole g y (lives.Struct n ls) = g.fields n ls ≡ Some y.cells
 IsWhole g y t = y.cells ≡ t ∷ []
 
 -- An object under construction, whose first cells hold values. The remaining writes fill its other cells; after the last write, the
--- pointer to the object is passed on.
+-- pointer to the object becomes the result.
 pub record IsMaking (g : Typing) (hand : ℕ) (writes : List Write) (v : Operand) (t : RunTy) (l : Life) : Type 0 where
   pub object : ℕ
   pub offset : ℕ
@@ -101,7 +101,7 @@ pub record IsMaking (g : Typing) (hand : ℕ) (writes : List Write) (v : Operand
   pub filled : IsFilled g object offset
   pub rest : AreNext g offset of_type.cells operands
   pub whole : IsWhole g of_type t
-  -- The operands for the remaining cells are on the stack, and above them is the pointer to the object.
+  -- The operands for the cells of an object that are still empty are on the stack, and above them is the pointer to the object.
   pub place : ℕ
   pub least : hand ≤ place
   pub given : AreNextGiven g.own place offset of_type.cells operands
@@ -124,7 +124,7 @@ abbrev pub AreFull : Typing → List InScope → Type 0
 AreFull g [] = Unit {0}
 AreFull g (b ∷ bs) = IsFilledIn g b × AreFull g bs
 
--- Says that a scope entry that is a local holds the resource of its own value.
+-- Says that a scope entry that is a local owns the resource (key or unique pointer) that its own value represents.
 abbrev pub IsOwnIn : Typing → InScope → Type 0
 IsOwnIn g (Variable b) = IsHere g g.depth b.number b.object
 IsOwnIn g b = Unit {0}
@@ -190,7 +190,8 @@ pub record IsRunning (p : Program) (focus : Focus) (k : List Entry) (e : Environ
   pub live : LiveIn k locals
   pub stands : IsFocus p typing exits locals focus k
 
--- Says that every part of a state is well-typed, so the state is neither dead nor wrong. This is the invariant of the soundness proof.
+-- Says that the heap state, scope and stack of a run state are well-typed, so the state is neither dead (freed memory accessed) nor
+-- wrong. This is the invariant of the soundness proof.
 abbrev pub IsWell : Program → State → Type 0
 IsWell p (Running focus k e w) = IsRunning p focus k e w
 IsWell p (Ended ending output input) = Unit {0}

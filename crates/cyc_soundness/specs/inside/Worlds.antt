@@ -17,7 +17,7 @@ pub data IsAmong {A : Type 0} (a : A) : List A → Type 0 where
   first : (as' : List A) → IsAmong a (a ∷ as')
   later : (b : A) (as' : List A) → IsAmong a as' → IsAmong a (b ∷ as')
 
--- The local whose variable the object is, given by the local's index and by how many other calls enclose its call.
+-- The local of which this object is the variable, given by its index and by how many calls on the call stack enclose its call.
 pub data Slot : Type 0 where
   NoLocal : Slot
   OfLocal : (depth number : ℕ) → Slot
@@ -29,15 +29,15 @@ pub record ObjectType : Type 0 where
   pub is_hidden : Bool
   pub slot : Slot
 
--- the holder of a resource
+-- the holder of a resource: the operand, cell or loan that owns a key or a unique pointer
 pub data Holder : Type 0 where
   -- no usable holder
   Nobody : Holder
-  -- The holder is the operand above this many other operands on the stack.
+  -- The holder that owns the resource is the operand on the stack above this many other operands.
   Hand : ℕ → Holder
-  -- The holder is the cell of an object at this offset.
+  -- The holder that owns the resource is the cell at this offset of an object.
   At : (object offset : ℕ) → Holder
-  -- The holder is a loan of this variable, which began after this many other loans.
+  -- The holder that owns the resource is a loan of this variable, which began after this many other loans.
   Lent : (before object : ℕ) → Holder
 
 -- States if a variable holds its value, has lost it, or has lent it.
@@ -61,15 +61,15 @@ pub record Typing : Type 0 where
   pub fields : ℕ → List Life → Option (List RunTy)
   -- the numbers that identify the dynamic regions
   pub kept : List ℕ
-  -- The facts about the current state: the holder of each resource, the state of each variable, the number of calls that enclose the
-  -- running call, and the number of loans.
+  -- The facts about the current state: the owner of each resource (key or unique pointer), the state of each variable, the depth of
+  -- calls, and the number of loans.
   pub own : Thing → Holder
   pub here : (object : ℕ) → Standing
   pub pending : Pending
   pub depth : ℕ
   pub loans : ℕ
 
--- Says that a region variable may denote this lifetime; a dynamic region must be one that the typing lists.
+-- Says that a region variable may denote this lifetime; a dynamic region must be one that the typing of the heap state lists.
 abbrev pub IsKnownLife : Typing → Life → Type 0
 IsKnownLife g (Kept (KeyOf region)) = IsAmong region g.kept
 IsKnownLife g Owned = ⊥
@@ -104,7 +104,7 @@ pub data IsEndOf (ms : List ℕ) : List ℕ → Type 0 where
   following : (n : ℕ) (ns : List ℕ) → IsEndOf ms ns → IsEndOf ms (n ∷ ns)
 
 -- Says that the first lifetime lasts at least as long as the second. The heap and the globals last for ever. A region that was open
--- around a scope lasts to the scope's end, and so do the loans of that time. A unique pointer may point to any unique object.
+-- when a scope began lasts to the scope's end, and so do the loans of that time. A unique pointer may point to any unique object.
 pub data Outlasts : Life → Life → Type 0 where
   alike : (l : Life) → Outlasts l l
   heap : (l : Life) → Outlasts heap_life l
@@ -119,12 +119,12 @@ AgreesWith c n = (a b : NamedRegion) → OutlivesIn c a b → Outlasts (n a) (n 
 
 -- ---- values
 
--- Says that an object of this type contains a part of the given type at this cell: a value, or a struct, which is the complete object.
+-- Says that at this cell, an object of this type contains a value of the given type, or a struct, which is the complete object.
 abbrev pub IsPart : Typing → (object : ℕ) → ObjectType → RunTy → (offset : ℕ) → Type 0
 IsPart g object x (Struct n ls) offset = (offset ≡ 0) × (g.fields n ls ≡ Some x.cells) × IsFilled g object (length x.cells)
 IsPart g object x t offset = (slice_get x.cells offset ≡ Some t) × IsFilled g object (suc offset)
 
--- The lifetime of an object as a pointer to it sees it.
+-- The lifetime that a pointer's type states for the object: for a unique object, that of the object with this number, else unchanged.
 abbrev pub life_at : (object : ℕ) → Life → Life
 life_at object Owned = Kept (PointerTo object)
 life_at object l = l
@@ -134,7 +134,7 @@ abbrev pub IsTarget : Typing → RunTy → Life → (object offset : ℕ) → Ty
 IsTarget g t l object offset =
     (x : ObjectType) × (slice_get g.objects object ≡ Some x) × (x.is_hidden ≡ false) × Outlasts (life_at object x.life) l × IsPart g object x t offset
 
--- Says that the region with this number has this lifetime.
+-- Says that the region identified by this number has this lifetime.
 abbrev pub IsNumber : Life → (region : ℕ) → Type 0
 IsNumber (OfRegion number around lent) region = number ≡ region
 IsNumber (Kept (KeyOf number)) region = number ≡ region
@@ -197,15 +197,14 @@ AreCells g (t ∷ ts) [] n = ⊥
 AreCells g (t ∷ ts) (c ∷ cs) zero = IsCell g false t c × AreCells g ts cs zero
 AreCells g (t ∷ ts) (c ∷ cs) (suc n) = IsCell g true t c × AreCells g ts cs n
 
--- Says that an object with this lifetime belongs to the lifetime's region, or is a unique object, which exists as long as
--- its pointer has a holder.
+-- Says that an object with this lifetime is in the lifetime's region, or is a unique object, which exists while its pointer has an owner.
 abbrev pub IsOwner : Life → Owner → Type 0
 IsOwner (OfRegion region around lent) (InRegion number) = region ≡ number
 IsOwner Owned (Unique live) = Unit {0}
 IsOwner (Kept (KeyOf region)) (InRegion number) = region ≡ number
 IsOwner l o = ⊥
 
--- Says that a new object with this lifetime has this owner; a new unique object is live.
+-- Says that a new object with this lifetime is in this region or is a unique object; a new unique object is live.
 abbrev pub IsNewOwner : Life → Owner → Type 0
 IsNewOwner l (Unique false) = ⊥
 IsNewOwner l (Unique true) = IsOwner l (Unique true)
@@ -253,7 +252,7 @@ thing_of (Pointer k t l) (values.Thin object offset) = pointer_at l object
 thing_of (Pointer k t l) (values.Fat object start count index) = pointer_at l object
 thing_of t v = None
 
--- Says that a resource, if there is one, belongs to this holder.
+-- Says that a resource (key or unique pointer), if there is one, is owned by this holder (an operand, cell or loan).
 abbrev pub Owns : (own : Thing → Holder) → Holder → Option Thing → Type 0
 Owns own h None = Unit {0}
 Owns own h (Some a) = own a ≡ h
@@ -268,7 +267,8 @@ IsStart (Pointer k t l) (values.Thin object offset) = AtStart l offset 0
 IsStart (Pointer k t l) (values.Fat object start count index) = AtStart l start index
 IsStart t v = Unit {0}
 
--- Says that the holder owns the resource that a value represents, if any, and that a unique pointer points to its object's start.
+-- Says that this operand, cell or loan owns the resource that a value represents, if any. A unique pointer must point to its
+-- object's start.
 abbrev pub Claims : (own : Thing → Holder) → Holder → RunTy → values.Value → Type 0
 Claims own h t v = Owns own h (thing_of t v) × IsStart t v
 
@@ -292,7 +292,7 @@ marked object b here = λ n. if n == object then b else here n
 abbrev pub handing : Typing → Option Thing → Holder → (object : ℕ) → Standing → Typing
 handing g o h object b = record g { own = given o h g.own; here = marked object b g.here }
 
--- Says that an object is the variable of this local, in a call that `depth` other calls enclose.
+-- Says that an object is the variable of this local, in a call that `depth` other calls enclose on the call stack.
 abbrev pub IsSlot : Typing → (depth number object : ℕ) → Type 0
 IsSlot g d n object = (x : ObjectType) × (slice_get g.objects object ≡ Some x) × (x.slot ≡ OfLocal d n)
 
@@ -304,18 +304,18 @@ IsHere g d n object = (g.here object ≡ Here) × IsSlot g d n object
 abbrev pub IsHiding : Typing → (object : ℕ) → (is_hidden : Bool) → Type 0
 IsHiding g object hidden = (x : ObjectType) × (slice_get g.objects object ≡ Some x) × (x.is_hidden ≡ hidden)
 
--- Says that a resource, if there is one, is held by this local, to whose variable no pointer points.
+-- Says that a resource (key or unique pointer), if there is one, is owned by this local, to whose variable no pointer points.
 abbrev pub IsLookedAt : Typing → (number : ℕ) → Option Thing → Type 0
 IsLookedAt g n None = Unit {0}
 IsLookedAt g n (Some a) = (object : ℕ) × IsHere g g.depth n object × IsHiding g object true × (g.own a ≡ At object 0)
 
--- Says that a resource is held by the local that was peeked at (read without a move). Without a peek, the
--- resource is held by an operand on the stack.
+-- Says that the local that was peeked at (read without a move) owns a resource. Without a peek, an
+-- operand on the stack owns the resource (key or unique pointer).
 abbrev pub ClaimsPart : Typing → (hand : ℕ) → (peek : Option ℕ) → Option Thing → Type 0
 ClaimsPart g i None o = Owns g.own (Hand i) o
 ClaimsPart g i (Some n) o = IsLookedAt g n o
 
--- Says that a resource, if there is one, has some holder.
+-- Says that a resource (key or unique pointer), if there is one, is owned by some operand, cell or loan.
 abbrev pub IsHad : Typing → Option Thing → Type 0
 IsHad g None = Unit {0}
 IsHad g (Some a) = IsHeld (g.own a)
@@ -326,14 +326,15 @@ ClaimsBy g i (Seen object t) v = Owns g.own (At object 0) (thing_of t v)
 ClaimsBy g i (Into peek t) v = ClaimsPart g i peek (thing_of t v)
 ClaimsBy g i r v = Unit {0}
 
--- The resource that a value claims when it leaves its call; such a value is never a peek (a read that does not move).
+-- The resource (key or unique pointer) that a value represents when it leaves its call; such a value is never a peek
+-- (a read that does not move).
 abbrev pub ClaimsAlone : (own : Thing → Holder) → (hand : ℕ) → RunValue → values.Value → Type 0
 ClaimsAlone own i (Value t) v = Claims own (Hand i) t v
 ClaimsAlone own i (Seen object t) v = ⊥
 ClaimsAlone own i (Into peek t) v = ⊥
 ClaimsAlone own i r v = Unit {0}
 
--- Says that a cell holds the resource of its own value; a variable to which no pointer may point may have moved or lent its value.
+-- Says that a cell owns the resource of the value stored in it; a variable to which no pointer may point may have moved or lent its value.
 abbrev pub IsKept : Typing → (object offset : ℕ) → (is_hidden : Bool) → Type 0
 IsKept g object offset hidden = (hidden ≡ true → g.here object ≡ Here) × (g.pending ≢ Awaits object offset)
 
@@ -354,7 +355,7 @@ abbrev pub IsUniqueObject : Typing → List Object → (object : ℕ) → Type 0
 IsUniqueObject g objects object = (t : ObjectType) × (x : Object) × (slice_get g.objects object ≡ Some t) × (t.life ≡ Owned) × (slice_get objects object ≡ Some x) × (x.owner ≡ Unique true)
 
 -- Says that each object has its type, and that there are no other objects. The region of the heap is open. Dynamic regions whose key
--- has a holder are open, and unique objects whose pointer has a holder are live.
+-- has an owner are open, and unique objects whose pointer has an owner are live.
 pub record IsTyped (g : Typing) (regions : List Region) (objects : List Object) : Type 0 where
   pub count : length objects ≡ length g.objects
   pub counts : length objects ≡ length g.filled
@@ -394,14 +395,14 @@ IsOpenIn g l = Unit {0}
 
 -- ---- growth
 
--- Says that all facts about objects in an earlier typing stay true in a later one.
+-- Says that all facts about objects in an earlier typing of the heap state stay true in a later one.
 pub record Grows (g h : Typing) : Type 0 where
   pub objects : (number : ℕ) (t : ObjectType) → slice_get g.objects number ≡ Some t → slice_get h.objects number ≡ Some t
   pub filled : (number count : ℕ) → IsFilled g number count → IsFilled h number count
   pub fields : (struct : ℕ) (ls : List Life) (ts : List RunTy) → g.fields struct ls ≡ Some ts → h.fields struct ls ≡ Some ts
   pub kept : (number : ℕ) → IsAmong number g.kept → IsAmong number h.kept
 
--- Says that the facts about objects stay true and that no resource changes its holder.
+-- Says that the facts about objects stay true and that no resource (key or unique pointer) changes its owner.
 pub record Stays (g h : Typing) : Type 0 where
   pub grows : Grows g h
   pub own : h.own ≡ g.own

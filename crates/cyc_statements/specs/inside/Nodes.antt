@@ -1,4 +1,4 @@
--- This file defines the mathematical views of the nodes of typed statements, and of the parts of the declaration of a local.
+-- This file defines the mathematical views of the nodes of typed statements, and of the type and the initial value of a declared local.
 use Rattle.std.specs.Prelude.{Option, option_map}
 use Rattle.std.specs.declared.boxed.Box.{Box}
 use Rattle.std.specs.declared.alloc.Global.{Global}
@@ -12,7 +12,7 @@ use Rattle.cyc_types.specs.typing.Expressions.{converted}
 use Rattle.cyc_operands.specs.inside.Operands.{view_boxed}
 use Rattle.cyc_statements.specs.declared.items.Initialised.{Initialised}
 
--- The typed statement in a box.
+-- The mathematical view of the typed statement in a `Box`.
 abbrev pub view_boxed_statement : Box Stmt Global → typed.Statement
 view_boxed_statement b = view.view_statement b.value
 

@@ -1,5 +1,5 @@
--- This file says how a table of pages represents a layout: by its rows, its words and the flags of live words, all as functions, and by the
--- first elements of its linked lists. The location of these parts is left open. The representation of a layout by a page table is this
+-- This file says how a table of pages represents a layout: by its rows, words and flags of live words, as functions, and by the starts of
+-- its linked lists. It is left open where the rows, words and flags are stored. The representation of a layout by a page table is this
 -- project's own choice.
 use Rattle.std.specs.Prelude.{◌≡◌, ℕ, zero, suc, ◌+◌, ◌-◌, ◌*◌, ◌/◌, ◌^◌, ◌<◌, ◌≤◌, ◌==◌, ◌⊎◌, Bool, false, List, [], ◌∷◌, ◌++◌, Option, None, Some, is_some, if◌then◌else◌, length, slice_index, slice_index_or}
 use Rattle.std.specs.List.{AllByRecursion}
@@ -27,7 +27,7 @@ pub record Table : Type 0 where
   pub word : ℕ → ℕ
   pub live : ℕ → Bool
 
--- Says that a list is a chain: each element names the next element, and the last element names the end.
+-- Says that a list is linked from index `first` on: `next` maps each element to the element after it, and the last element to `NONE`.
 abbrev pub IsChain : (next : ℕ → ℕ) → (first : ℕ) → List ℕ → Type 0
 IsChain next first [] = first ≡ NONE
 IsChain next first (x ∷ xs) = (first ≡ x) × IsChain next (next x) xs
@@ -43,7 +43,7 @@ numbers_from first (suc count) = first ∷ numbers_from (suc first) count
 
 -- ---- the row of a page
 
--- The number of leading words of a page that are live by the page's row alone, without a look at the flags of live words.
+-- The number of leading words of a page that the page's row alone shows to be live, without a look at the flags of live words.
 abbrev pub limit : (owner : Option ℕ) → (filled : ℕ) → ℕ
 limit None filled = 0
 limit (Some h) filled = if h == UNIQUE then 0 else filled

@@ -469,8 +469,8 @@ module _ (p : typed.Program) (h : typed.Function) where
     operand_served true a w = seen_served a w
     operand_served false a w = int_served a w
 
-    -- says that adding an operation at the front of a well-typed operation chain gives a chain that
-    -- continues from a left operand of the given type
+    -- says that an operator with its right operand, put before a well-typed operator chain, gives a chain that continues from a left
+    -- operand of the given type
     abbrev IsJoined : ValueType → Joined → Type 0
     IsJoined left j = (os : typed.Operations) (u : Ty) → IsChain here (Value j.1) os u → IsChain here left (j.0 os) u
 
@@ -588,7 +588,7 @@ module _ (p : typed.Program) (h : typed.Function) where
       joined_well operators.Divide j w d = ints_well binary.Divide j w d
       joined_well operators.Remainder j w d = ints_well binary.Remainder j w d
 
-    -- Lemmas about the first operand of an operation chain, before the chain's first operator.
+    -- Lemmas about the first operand of an expression with several left-associative operators, before the first operator.
     module _ (q o : Place) (a b : typed.Expression) where
       abbrev IsFirst : Joined → Type 0
       IsFirst j = (os : typed.Operations) → IsLeft (IsWell a) here a (type_of a) (j.0 os)

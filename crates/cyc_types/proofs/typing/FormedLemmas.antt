@@ -90,7 +90,7 @@ counted_substituted structs rs (Handle r) c = tt
 counted_substituted structs rs (Key r) c = tt
 counted_substituted structs rs (Struct n ss) c = λ s at. length-map ss (substituted_region rs) ∙ c s at
 
--- says that a type mentions only the first n region variables, and that its structs have the right number of region arguments
+-- says that a type contains only the first n region variables, and that its structs have the right number of region arguments
 abbrev pub IsFormed : List StructName → ℕ → Ty → Type 0
 IsFormed structs n t = AllIn (IsKnown n) t × IsCounted structs t
 
@@ -194,7 +194,7 @@ abbrev pub IsFormedResult : List StructName → ℕ → Option Ty → Type 0
 IsFormedResult structs n None = Unit {0}
 IsFormedResult structs n (Some t) = IsFormed structs n t
 
--- says that the meaning of a name is well-formed: the types of a variable or function mention only regions of the scope
+-- says that the meaning of a name is well-formed: the types of the variable or function that it denotes contain only regions of the scope
 abbrev pub IsFormedMeaning : List StructName → ℕ → Meaning → Type 0
 IsFormedMeaning structs n Unknown = Unit {0}
 IsFormedMeaning structs n (scopes.Variable l t home) = IsFormed structs n t × IsKnown n home

@@ -1,4 +1,4 @@
--- A program accepted by the typing rules has no declaration whose type mentions an unknown region.
+-- A program accepted by the typing rules has no declaration whose type contains an undeclared region.
 use Rattle.std.proofs.Common.{◌≡◌, ℕ, zero, suc, ◌+◌, ◌<◌, ◌≤◌, Bool, true, false, cond, nat_eq, List, [], ◌∷◌, ◌++◌, Option, Some, None, map, length, slice_get, inl, inr, refl, sym, ap, subst, ◌∙◌, arith}
 use Rattle.std.specs.Prelude.{unwrap_or, codes}
 use Rattle.std.proofs.lemmas.Bool.{true≢false, not-true}

@@ -22,7 +22,7 @@ use Rattle.cyc_types.proofs.ClosureLemmas.{not_unique}
 use Rattle.cyc_types.proofs.typing.TestLemmas.{kept_append}
 use Rattle.cyc_types.proofs.typing.ExpressionLemmas.{IsKeyOfVariable}
 
--- says that each name of the initial scope denotes nothing, the heap or the unique region
+-- says that each name either is no declared region name, or denotes the heap or the unique region, as at a program's start
 abbrev pub IsBase : List RegionName → Type 0
 IsBase names = (x : ℕ) → (region_among names x ≡ None) ⊎ ((region_among names x ≡ Some Heap) ⊎ (region_among names x ≡ Some Unique))
 

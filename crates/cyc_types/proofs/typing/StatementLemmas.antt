@@ -130,7 +130,7 @@ module _ (p : typed.Program) (h : typed.Function) where
     live = Contains-head (regions.Variable g.next_region) (live_regions g.regions.live g.regions.opened);
   }
 
-  -- a scope still fits the typed function after it opens the region of a region variable in a block
+  -- a scope still agrees with the typed function after it opens the region of a region variable in a block
   opening : (g : Scope) (k : Kind) (n m : ℕ) → Fits p h g → Fits p h (record g { next_region = m; regions = with_scope k (regions.Variable n) g.regions })
   opening g k n m fits = record {
     locals = fits.locals;
@@ -173,7 +173,7 @@ module _ (p : typed.Program) (h : typed.Function) where
     live = fits.live;
   }
 
-  -- the list of locals that remains after a construct has declared its own m locals
+  -- if a function's locals from number n on are m locals of a construct and then `us`, its locals from n + m on are `us`
   after_locals : (n m : ℕ) (ts us : List Ty) → length ts ≡ m → Holds (all_variables p h) n (ts ++ us) → Holds (all_variables p h) (n + m) us
   after_locals n m ts us same k i j t e at_i = k (length ts + i) j t (omega arith) (slice_get_after ts us i (length ts + i) t refl at_i)
 

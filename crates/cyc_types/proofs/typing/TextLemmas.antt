@@ -1,5 +1,6 @@
--- The typed program of a source text satisfies the requirements of `specs/Texts`, and its constants are 32-bit words. By the typing
--- rules, a typed program satisfies the requirements of `specs/Texts` if its syntax tree satisfies the grammar and the limits.
+-- The typed program of a source text satisfies the requirements on programs from source texts (`specs/Texts`), and its constants
+-- are 32-bit words. By the typing rules, a typed program satisfies the requirements of `specs/Texts` if its syntax tree satisfies
+-- the grammar and the limits.
 use Rattle.std.proofs.Common.{◌≡◌, ℕ, zero, suc, ◌+◌, ◌≤◌, ◌<◌, Bool, true, false, not, nat_eq, ◌&&◌, ◌||◌, cond, List, [], ◌∷◌, ◌++◌, map, Option, Some, None, length, slice_get, refl, sym, ap, subst, ◌∙◌, arith, length-append}
 use Rattle.std.specs.Prelude.{◌^◌, unwrap_or, if◌then◌else◌}
 use Rattle.std.specs.List.{AllByRecursion}
@@ -187,7 +188,7 @@ sum_put (Value Int) o fat a os other kept = absurd (cc)
 sum_put (Value t) o fat a os other kept = (refl, other)
 
 module _ (g : Scope) (p : Place) (k : Option ℕ) (left : ValueType) (q : Place) (a : typed.Expression) (other : is_int left ≡ false) where
-  -- adding a pointer-arithmetic operation in front of a chain of pointer arithmetic gives a chain of pointer arithmetic
+  -- putting a pointer-arithmetic operator in front of an operator chain of pointer arithmetic gives a chain of pointer arithmetic
   sum_of_pointer : (o : Operator) (fat : PointerOperator) (j : Joined) → is_comparison fat ≡ false → Derives (sums_joined p left o fat q a) j
       → (is_int (Value j.1) ≡ false) × ((os : typed.Operations) → are_sums os ≡ true → are_sums (j.0 os) ≡ true)
   sum_of_pointer o fat j sum ((kept, more), eq) =
@@ -202,7 +203,7 @@ module _ (g : Scope) (p : Place) (k : Option ℕ) (left : ValueType) (q : Place)
   level_of_sums operators.Subtract j two d = sum_of_pointer _ pointers.SubtractFat j refl d
   level_of_sums o j two d = absurd (cc)
 
--- if the left operand of a chain of sums is not an int, the chain consists of pointer arithmetic only
+-- if the left operand of an operator chain of `+` and `-` is not an int, all its operators are pointer arithmetic
 sums_chain : (g : Scope) (p : Place) (k : Option ℕ) (left : ValueType) (os : Operations) → AreOperations 1 os → is_int left ≡ false → (bs : typed.Operations × Ty) → Derives (rule_chain g p k left os) bs
     → are_sums bs.0 ≡ true
 sums_chain g p k left NoOperations w other bs (kept, eq) = ap (λ (z : typed.Operations × Ty). are_sums z.0) eq
@@ -210,7 +211,7 @@ sums_chain g p k left (ThenOperation o q e os) (two, w, ws) other bs (put, (b, k
     let (next, sums) = level_of_sums g p k left (place_of e) (as_int b) other o put two d in
     ap (λ (z : typed.Operations × Ty). are_sums z.0) eq ∙ sums cs.0 (sums_chain g p None (Value put.1) os ws next cs ks)
 
--- says that, if `+` or `-` follows a left operand that is not an int, all operations after it are pointer arithmetic
+-- says that, if `+` or `-` follows a left operand that is not an int, all operators after it in the expression are pointer arithmetic
 abbrev IsAloneAfter : BinaryOperator → ValueType → typed.Operations → Type 0
 IsAloneAfter operators.Add left os = is_int left ≡ false → are_sums os ≡ true
 IsAloneAfter operators.Subtract left os = is_int left ≡ false → are_sums os ≡ true
@@ -226,7 +227,8 @@ alone_after g p k left q a below o os put cs two w d h = tt
 
 -- ---- operators
 
--- says that an operation in front of a chain satisfies the requirements on trees of source texts if its operand and the chain satisfy them
+-- says that an operator put in front of an operator chain satisfies the requirements on trees of source texts if its right operand and the
+-- chain do
 abbrev IsTextBefore : typed.Expression → Joined → Type 0
 IsTextBefore a j = (os : typed.Operations) → Meets tree_demands a → OperationsMeet tree_demands os → OperationsMeet tree_demands (j.0 os)
 
@@ -568,6 +570,7 @@ program_meets texts symbols tree p has within words short (u, heads, (v, main, (
     let few : ProgramKnowsFew known = (fields_few known.known tree within, omega (arith, many, exceptions_few tree, weight, short)) in
     subst (λ (z : typed.Program). FunctionsMeet tree_demands z.functions) (sym eq) (functions_text known few tree has.formed (tree_constants symbols tree has words) fs functions)
 
--- a program whose functions satisfy the requirements `tree_demands` satisfies the requirements of `specs/Texts`
+-- a program whose functions satisfy the requirements `tree_demands` satisfies all requirements on programs from
+-- source texts (`specs/Texts`)
 pub of_text : (p : typed.Program) → FunctionsMeet tree_demands p.functions → IsOfTextProgram p
 of_text p = functions_meet tree_demands text_demands (record { number = λ n w. tt; fields = λ cs w. w; pointer = λ o os w. w; exception = λ n w. w }) p.functions

@@ -1,4 +1,4 @@
--- The weight of a typed tree is at most the weight of its syntax tree.
+-- The weight (token count) of a typed tree is at most the weight of its syntax tree.
 use Rattle.std.proofs.Common.{◌≡◌, ℕ, zero, suc, ◌+◌, ◌*◌, ◌≤◌, Bool, true, false, cond, List, [], ◌∷◌, ◌++◌, Option, Some, None, sym, ap, subst, ◌∙◌, arith, length, slice_get, length-append}
 use Rattle.std.proofs.lemmas.Option.{same_Some, none-some}
 use Rattle.std.specs.Prelude.{option_map}
@@ -41,7 +41,7 @@ use Rattle.cyc_types.proofs.typing.CountLemmas.{thrown_shape, opened_shape, alia
 
 -- ---- expressions
 
--- says that each expression that a rule derives has a weight of at most n tokens
+-- says that each expression that a typing rule derives has a weight (token count) of at most n tokens
 abbrev IsLight : Rule typed.Expression → ℕ → Type 0
 IsLight r n = (a : typed.Expression) → Derives r a → expression_weight a ≤ n
 
@@ -57,7 +57,7 @@ looked_token : (l : Lvalue) (t : Ty) → expression_weight (variable_looked l t)
 looked_token (typed.Local p n) t = either_token (is_unique t) (typed.Peek p n t) (variable_read (typed.Local p n) t) (omega arith) (variable_token (typed.Local p n) t)
 looked_token (typed.Global n) t = omega arith
 
--- an expression that reads a name weighs at most one token
+-- the weight (token count) of an expression that reads a name is at most one token
 read_lighter : (m : Meaning) (p : Place) → IsLight (read m p) 1
 read_lighter Unknown p a d = absurd d
 read_lighter (scopes.Variable l t home) p a (k, eq) = subst (λ z. expression_weight z ≤ 1) (sym eq) (variable_token l t)
@@ -77,7 +77,7 @@ seen_lighter g n (Variable x) walked few w a d = omega (arith, few, looked_light
 seen_lighter g n (Bracketed p e) walked few w a d = seen_lighter g n e walked (omega (arith, few)) w a d
 seen_lighter g n e walked few w a d = w a d
 
--- converting an expression from char to int adds no weight
+-- converting an expression from char to int adds nothing to its weight (token count)
 either_served : (b : Bool) (a : typed.Expression) → expression_weight (cond b (typed.Unary unary.Widen a) a) ≤ expression_weight a
 either_served true a = omega arith
 either_served false a = omega arith
@@ -141,7 +141,7 @@ assignment_weight (CellSide c) b = omega arith
 
 -- ---- operators
 
--- says that adding an operation in front of a chain adds at most one token for the operator and the weight of the operand
+-- says that putting an operator in front of an operator chain adds at most one token for the operator and the weight of its right operand
 abbrev IsAdded : typed.Expression → Joined → Type 0
 IsAdded a j = (os : typed.Operations) → operations_weight (j.0 os) ≤ 1 + expression_weight a + operations_weight os
 
@@ -298,7 +298,7 @@ mutual
 
 -- ---- statements
 
--- the initial value of a local, with its `=` token, weighs at most as much in the typed tree as in the syntax tree
+-- the initial value of a local, with its `=` token, weighs (in tokens) at most as much in the typed tree as in the syntax tree
 initial_lighter : (g : Scope) (w : WrittenType) (x : Named) (v : Option Expression) (c : Ty × Option Converted) → Derives (rule_initial g w x v) c
     → optional_weight (λ d. 1 + converted_weight d) c.1 ≤ optional_weight (λ e. 1 + written.expression_weight e) v
 initial_lighter g w x None c (k, eq) = subst (λ (z : Ty × Option Converted). optional_weight (λ d. 1 + converted_weight d) z.1 ≤ 0) (sym eq) (omega arith)
@@ -457,7 +457,7 @@ mutual
   clauses_declare (typed.Case e n r js cs) =
       omega (arith, length-append (caught_types n) (item_types js ++ clause_types cs), length-append (item_types js) (clause_types cs), caught_declares n, items_declare js, clauses_declare cs)
 
--- says that the weight of a function bounds the number of its parameters, locals and regions
+-- says that the weight (token count) of a function bounds the number of its parameters, locals and regions
 abbrev Outweighs : typed.Function → Type 0
 Outweighs h = (h.variables + 1 ≤ h.regions) × (2 * length h.parameters + 3 * length h.locals + 2 * h.regions + 4 ≤ function_weight h + 2 * h.variables)
 

@@ -66,8 +66,8 @@ peek_after (Target k a t) = peek_of a
 peek_after (Member k a s m t) = peek_of a
 peek_after (Element a i t) = peek_of a
 
--- The requirement that no local is emptier at the end of a loop's body than at the loop's head. The source position of this
--- requirement is that of the loop's keyword.
+-- The requirement that at the end of a loop's body each local is at least as full (free, borrowed or perhaps empty) as at
+-- the loop's head. The source position of this requirement is that of the loop's keyword.
 abbrev pub head_demanded : Place → (now head : State) → List Demand
 head_demanded p f head = demand codes.LoopEmptiesVariable p (is_at_least f head) ∷ []
 
@@ -119,7 +119,7 @@ abbrev mutual
   rule_arguments q NoArguments f = gives f
   rule_arguments q (MoreArguments c as') f = Part (rule_converted q c f) (λ g. rule_arguments q as' g)
 
-  -- the flow rule for the operations of a chain; `&&` and `||` may skip their right operand
+  -- the flow rule for the operators after the first operand of an expression, with their right operands; `&&` and `||` may skip theirs
   pub rule_operations : (waiting : List ℕ) → Operations → State → Rule State
   rule_operations q NoOperations f = gives f
   rule_operations q (ThenCompute o a os) f = Part (rule q a f) (λ g. rule_operations q os g)

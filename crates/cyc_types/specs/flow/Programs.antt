@@ -18,7 +18,7 @@ each_is a (t ∷ ts) = a ∷ each_is a ts
 abbrev pub start_of : Function → State
 start_of h = Reached (each_is Full h.parameters ++ each_is Vacant h.locals)
 
--- the surroundings of a function's body: no enclosing loop and no locals whose values are borrowed
+-- the enclosing loop and the borrowed locals at the start of a function's body: no loop, and no local whose value is borrowed
 abbrev pub in_function : Around
 in_function = record { loop = None; locks = [] }
 

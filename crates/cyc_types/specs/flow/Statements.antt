@@ -1,7 +1,6 @@
--- The flow rules of statements, of block items and of catch clauses. The states of the locals are propagated in execution order,
--- together with the
--- states at the breaks that leave the innermost loop. (As in `Expressions`: the demands on variables are Cyclone's, Grossman et al. 2002;
--- locks, codes and places are this project's own choice.)
+-- The flow rules of statements, of block items and of catch clauses. The states of the locals are propagated in execution order, together
+-- with the states at the breaks that leave the innermost loop. (As in `Expressions`: the demands on variables are Cyclone's, Grossman et
+-- al. 2002; locks, codes and places are this project's own choice.)
 use Rattle.std.specs.Prelude.{ℕ, List, [], ◌∷◌, ◌++◌, Option, Some, None}
 use Rattle.cyc_syntax.specs.Symbols.{Place}
 use Rattle.cyc_types.specs.TypedTrees.{Local, Global, Expression, Converted, Side, VariableSide, CellSide, Statement, Block, Empty, Evaluate, Swap, If, While, Return, Break, Continue}
@@ -16,8 +15,8 @@ pub record Loop : Type 0 where
   pub place : Place
   pub head : State
 
--- The surroundings of a statement: the innermost enclosing loop, if any, and the locals whose values declarations have borrowed since the
--- body of that loop began.
+-- The enclosing constructs on which the flow rule of a statement depends: the innermost enclosing loop, if any, and the locals whose
+-- values declarations have borrowed since the body of that loop began.
 pub record Around : Type 0 where
   pub loop : Option Loop
   pub locks : List ℕ
@@ -62,7 +61,8 @@ swap_demanded x y f = side_demanded [] x f ++ side_demanded (and_peeked (peeked_
 abbrev pub rule_swapped : Side → Side → State → Rule State
 rule_swapped x y f = Part (rule_side [] x f) (λ g. Part (rule_side (and_peeked (peeked_side x) []) y g) (λ h. Own (swap_demanded x y h) h))
 
--- the surroundings in the body of a loop, from the loop's source position and the state at its head
+-- the enclosing loop and the borrowed locals (none yet) at the start of a loop's body, from the loop's source position and the state at its
+-- head
 abbrev pub in_loop : Place → State → Around
 in_loop p head = record { loop = Some (record { place = p; head = head }); locks = [] }
 

@@ -47,7 +47,7 @@ are_as_full [] (b ∷ bs) = false
 are_as_full (a ∷ as') [] = false
 are_as_full (a ∷ as') (b ∷ bs) = is_as_full a b && are_as_full as' bs
 
--- returns true if no local is emptier in the first state than in the second
+-- returns true if each local is at least as full (free, borrowed or perhaps empty) in the first state as in the second
 abbrev pub is_at_least : State → State → Bool
 is_at_least Unreached g = true
 is_at_least (Reached as') Unreached = false

@@ -1,10 +1,10 @@
--- Names of regions in the code's representation. The representation of region names is this project's own choice.
+-- Names of regions as the compiler's code represents them. The representation of region names is this project's own choice.
 use Rattle.std.specs.Prelude.{ℕ, List, [], ◌∷◌}
 use Rattle.cyc_types.specs.declared.region.Region.TheVariants.{Heap, Unique}
 use Rattle.cyc_types.specs.typing.Scopes.{RegionName}
 use Rattle.cyc_types.specs.typing.Formation.{Naming}
 
--- builds the code's record of region names and the next region number, as it is after some parameters
+-- builds the record in which the compiler's code keeps the region names declared by some parameters and the next region number
 abbrev pub naming : List RegionName → ℕ → Naming
 naming names next = record { names = names; next = next }
 

@@ -24,7 +24,7 @@ scope_at scopes i = get_or scopes i (record { region = Heap; kind = Block })
 abbrev pub live_before : List Region → List Scope → ℕ → List Region
 live_before live scopes i = live_regions live (reverse (take i scopes))
 
--- says that the table of opening indexes fits the scope at the given index, so that the scope's region is found without a search
+-- says that the table of opening indexes is correct for the scope at the given index, so that the scope's region is found without a search
 pub record IsOrderly (written : List (Region × Region)) (live : List Region) (openings : List ℕ) (scopes : List Scope) (i : ℕ) : Type 0 where
   -- the scope's region was live before any scope opened, or the table stores the index of the region's oldest scope
   pub found : (is_region_among (scope_at scopes i).region live ≡ true)
@@ -36,7 +36,7 @@ pub record IsOrderly (written : List (Region × Region)) (live : List Region) (o
   pub fresh : is_outlived_by_live (scope_at scopes i).kind ≡ true →
       is_region_among (scope_at scopes i).region (live_before live scopes i) ≡ false
 
--- says that the table of opening indexes fits each of the first `n` scopes
+-- says that the table of opening indexes is correct for each of the first `n` scopes
 pub record IsInOrder (written : List (Region × Region)) (live : List Region) (openings : List ℕ) (scopes : List Scope) (n : ℕ) : Type 0 where
   pub within : n ≤ length scopes
   pub each : (i : ℕ) → i < n → IsOrderly written live openings scopes i

@@ -182,7 +182,8 @@ abbrev pub result_demanded : Known → List RegionName → Option WrittenType �
 result_demanded k names None = []
 result_demanded k names (Some w) = type_demanded k.structs names None w
 
--- the requirements on each region of a written effect: it is declared, is not the unique region, and none of the listed types is its key
+-- the requirements on each region of a written effect: it is declared, is not the unique region, and no parameter or result has the type
+-- of its key
 abbrev pub effect_demanded : List RegionName → List Ty → List Named → List Demand
 effect_demanded names ts [] = []
 effect_demanded names ts (r ∷ rs) =

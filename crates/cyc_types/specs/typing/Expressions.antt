@@ -202,7 +202,8 @@ field_among (f ∷ fs) x = if nat_eq f.name x then Some f.of_type else field_amo
 abbrev pub field_type : List Region → Option Ty → Ty
 field_type rs t = substituted_ty rs (unwrap_or t Int)
 
--- The memory cell `e->f`, for the operand e at source position p. If the operand e is not a pointer to a struct, its fields are unknown.
+-- The memory cell `e->f`, for the operand e at source position p. If the operand e is not a pointer to a struct, the field's name is not
+-- checked.
 abbrev pub selected : Scope → Place → typed.Expression → Named → Reached
 selected g p a f = record {
   asked = demand codes.TypeMismatch p (is_value has_members (type_of a))
@@ -296,7 +297,7 @@ abbrev pub operand : Bool → (used seen : Rule typed.Expression) → Rule typed
 operand true used seen = seen
 operand false used seen = used
 
--- a pair: the function that puts an operation in front of a chain of operations, and the operation's result type
+-- a pair: the function that puts an operator with its right operand in front of an operator chain, and the type of the operator's result
 abbrev pub Joined : Type 0
 Joined = (typed.Operations → typed.Operations) × Ty
 
@@ -305,13 +306,13 @@ abbrev pub peeked_local : typed.Expression → Option ℕ
 peeked_local (typed.Peek p n t) = Some n
 peeked_local a = None
 
--- puts an operation on a pointer or `NULL` in front of a chain of operations; its left operand may be a
--- unique pointer that stays in its local
+-- puts an operator on a pointer or `NULL` in front of an operator chain; its left operand may be a unique pointer that stays in its local
 abbrev pub then_pointer : Option ℕ → PointerOperator → typed.Expression → typed.Operations → typed.Operations
 then_pointer None o a = typed.ThenPointer o a
 then_pointer (Some n) o a = typed.ThenPointerPeek n o a
 
--- In the following definitions, p is the source position where the chain with the left operand begins, and q that of the right operand.
+-- In the following definitions, p is the source position where an expression with several operators begins, and q that of an operator's
+-- right operand.
 
 abbrev pub ints_joined : Place → ValueType → Operator → Place → typed.Expression → Rule Joined
 ints_joined p left o q a = Own (int_wanted left p ∷ int_wanted (type_of a) q ∷ []) (typed.ThenCompute o a, Int)
@@ -346,7 +347,7 @@ are_compared (Value (Pointer k t r)) types.Null = true
 are_compared types.Null (Value (Pointer k t r)) = true
 are_compared left right = false
 
--- returns false if both operands are pointers and the region of the first is not live
+-- returns true unless both operands of a comparison are pointers and the region of the first is not live
 abbrev pub is_compared_live : Scope → ValueType → ValueType → Bool
 is_compared_live g (Value (Pointer k t r)) (Value (Pointer l u s)) = is_live g r
 is_compared_live g left right = true
@@ -433,12 +434,12 @@ abbrev pub paired_arguments : List Ty → List typed.Expression → List (Region
 paired_arguments (t ∷ ts) (a ∷ as') = paired_argument t (type_of a) ++ paired_arguments ts as'
 paired_arguments ts as' = []
 
--- the region that is first paired with region variable n, or the heap if no pair has the variable
+-- the region that the first pair with region variable n gives to this variable, or the heap if no pair has the variable
 abbrev pub first_place : List (Region × Region) → ℕ → Region
 first_place [] n = regions.Heap
 first_place (p ∷ ps) n = if region_eq p.0 (regions.Variable n) then p.1 else first_place ps n
 
--- lists, for `count` region variables from number `from` on, the region that is first paired with each of these variables
+-- lists, for `count` region variables from number `from` on, the region that the first pair with each of these variables gives to it
 abbrev pub first_places : List (Region × Region) → (count from : ℕ) → List Region
 first_places ps zero n = []
 first_places ps (suc k) n = first_place ps n ∷ first_places ps k (suc n)
@@ -511,7 +512,7 @@ key_freed m p = Refused (fault_at codes.RegionOrKeyMisused p)
 
 -- ---- new objects
 
--- the choice of the region for a new object: the requirements on it, the placement node of the typed tree, and the region
+-- the region chosen for a new object: the requirements on it, the placement node of the typed tree, and the region itself
 pub record Placed : Type 0 where
   pub asked : List Demand
   pub placement : Placement
@@ -619,17 +620,17 @@ abbrev mutual
   rule_all g NoExpressions = gives []
   rule_all g (MoreExpressions e es) = Part (rule g e) (λ a. Part (rule_all g es) (λ as'. gives (a ∷ as')))
 
-  -- The rule for the operators of a chain that begins at source position p, after a left operand of the given type. The left operand
-  -- of a chain may be a unique pointer that stays in its local. The rule of a chain derives the chain's typed operations and the type
-  -- of its value.
+  -- The rule for the operators of an expression that begins at source position p, after a left operand of the given type. The left
+  -- operand of an operator chain may be a unique pointer that stays in its local. The rule of an operator chain derives its typed
+  -- operators with their right operands, and the type of its value.
   pub rule_chain : Scope → Place → Option ℕ → ValueType → Operations → Rule (typed.Operations × Ty)
   rule_chain g p k left NoOperations = Own (value_wanted left p ∷ []) (typed.NoOperations, value_of left)
   rule_chain g p k left (ThenOperation o q e os) =
       Part (Part (operand (is_looking o) (rule g e) (rule_looked g e (rule g e))) (λ a. joined g p k left o (place_of e) (as_int a)))
       (λ put. Part (rule_chain g p None (Value put.1) os) (λ bs. gives (put.0 bs.0, bs.1)))
 
-  -- The rule for an expression used as an lvalue. An expression that is not an lvalue is first checked by the rule `walked`, and then
-  -- rejected.
+  -- The rule for an expression used as an lvalue. An expression that is not an lvalue is first checked by the rule `walked` (its rule
+  -- as a value), and then rejected.
   pub rule_place : Scope → Place → Expression → (walked : Rule typed.Expression) → Rule Found
   rule_place g p (Variable x) walked = place_meant (meaning_of g x) x.place p
   rule_place g p (Bracketed q e) walked = rule_place g p e walked

@@ -160,7 +160,8 @@ abbrev pub name_demanded : List RegionName → (own : Option ℕ) → Named → 
 name_demanded names None r = demand codes.UnknownName r.place (is_known names r)
 name_demanded names (Some own) r = demand codes.DeclaredTwice r.place (not (nat_eq r.name own))
 
--- the requirement that a region name does not denote the unique region, which is allowed only after a pointer sign; the heap has no key
+-- The requirement that a region name does not denote the unique region, which is allowed only after a pointer sign. The next
+-- requirement is that a key's region is not the heap, which has no key.
 abbrev pub no_unique_demanded : List RegionName → Named → Demand
 no_unique_demanded names r = demand codes.RegionOrKeyMisused r.place (not (is_name_of names Unique r))
 

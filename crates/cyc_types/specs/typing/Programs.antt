@@ -173,7 +173,7 @@ program_of p tree fs = record {
   main = function_number p.known.main tree;
 }
 
--- the source position of a fault that belongs to no position of the text
+-- the source position (line 1, column 1) of a fault that belongs to no position of the text
 abbrev pub start : Place
 start = record { line = 1; column = 1 }
 

@@ -36,8 +36,8 @@ pub record Exception : Type 0 where
   pub name : ℕ
   pub has_int : Bool
 
--- the meaning of a name: unknown, an assignable variable, a region handle (not assignable), the
--- loop counter of an array `for`, or a function
+-- the meaning of a name: unknown, an assignable variable, a region handle (not assignable), the loop counter of an array `for`, or a
+-- function
 pub data Meaning : Type 0 where
   Unknown : Meaning
   -- a name that denotes a variable that may be assigned; `home` is the region that contains the variable

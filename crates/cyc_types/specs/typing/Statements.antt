@@ -133,7 +133,7 @@ abbrev pub number_of_region : RegionCode → ℕ
 number_of_region (regions.Variable n) = n
 number_of_region r = 0
 
--- the number of a local; a global gets an arbitrary number
+-- the number of the local that a variable is; for a variable that is a global, an arbitrary number
 abbrev pub local_number : Lvalue → ℕ
 local_number (typed.Local p n) = n
 local_number (Global n) = 0

@@ -1,5 +1,5 @@
--- Boolean tests on types, and functions that select the parts of a type; a default makes each selection total. (As in
--- `Expressions`: types are Cyclone's, Grossman et al. 2002; the default is this project's own choice.)
+-- Boolean tests on types, and functions that select a component of a type, such as a pointer's region; a default makes each selection
+-- total. (As in `Expressions`: types are Cyclone's, Grossman et al. 2002; the default is this project's own choice.)
 use Rattle.std.specs.Prelude.{ℕ, Bool, true, false, nat_eq, not, ◌&&◌, ◌||◌, List, [], ◌∷◌, Option, Some, None}
 use Rattle.cyc_syntax.specs.declared.tree.PointerKind.{PointerKind}
 use Rattle.cyc_syntax.specs.declared.tree.PointerKind.TheVariants.{Nullable, NonNull, Fat}

@@ -150,7 +150,7 @@ pub data PointerOperation (c : Context) : PointerOperator → (left right result
   null_is : (k : PointerKind) (t : Ty) (r : Region) → PointerOperation c pointers.NullIs Null (Value (Pointer k t r)) (Value Int)
   null_is_not : (k : PointerKind) (t : Ty) (r : Region) → PointerOperation c pointers.NullIsNot Null (Value (Pointer k t r)) (Value Int)
 
--- the typing of the left operand of a chain; a unique pointer may stay in its local only if the next operator merely tests or compares it
+-- the typing of the left operand of an operator; a unique pointer may stay in its local only if the operator merely tests or compares it
 abbrev pub IsLeft : (well : Type 0) → Context → Expression → ValueType → Operations → Type 0
 IsLeft well c a v (ThenTest o b os) = well ⊎ IsPeek c a v
 IsLeft well c a v (ThenPointerPeek n o b os) = IsPeek c a v × IsPeekOf n a
@@ -175,7 +175,7 @@ abbrev mutual
   WellTyped c (Peek p n u) t = ⊥
   -- a read of a memory cell is well-typed only if the cell holds neither a whole struct nor a unique pointer
   WellTyped c (Load d) t = (u : Ty) × (r : Region) × IsCell c d u r × (is_struct u ≡ false) × (is_unique u ≡ false) × (t ≡ Value u)
-  -- `&` is well-typed only if the variable or cell holds no unique pointer or key, and is not a part of a unique object
+  -- `&` is well-typed only if the variable or cell holds no unique pointer or key, and does not lie inside a unique object
   WellTyped c (AddressOf l u) t = (v : Ty) × (r : Region) × IsPlace c l v r × (is_moved v ≡ false) × (u ≡ Pointer marks.NonNull v r) × (t ≡ Value u)
   WellTyped c (AddressOfCell d u) t = (v : Ty) × (r : Region) × IsCell c d v r × (is_moved v ≡ false) × (r ≢ regions.Unique) × (u ≡ Pointer marks.NonNull v r) × (t ≡ Value u)
   WellTyped c (NumberOfElements a) t = (u : Ty) × (r : Region) × (WellTyped c a (Value (Pointer marks.Fat u r)) ⊎ IsPeek c a (Value (Pointer marks.Fat u r))) × (t ≡ Value Int)
@@ -228,7 +228,7 @@ abbrev mutual
   IsMade c (Array p l n k a) m t =
       (l ≡ c.counters) × WellTyped c n (Value Int) × WellTyped (with_counter c) a (Value t) × (is_key t ≡ false) × (k ≡ kind_of t) × (m ≡ marks.Fat)
 
-  -- says that the operations after a left operand of type `left` give a value of type u
+  -- says that the operators after a left operand of type `left`, with their right operands, give a value of type u
   pub IsChain : Context → ValueType → Operations → Ty → Type 0
   IsChain c left NoOperations u = left ≡ Value u
   IsChain c left (ThenCompute o a os) u = (left ≡ Value Int) × WellTyped c a (Value Int) × IsChain c (Value Int) os u
@@ -415,8 +415,8 @@ abbrev pub AreConstraints : (variables : ℕ) → List (Region × Region) → Ty
 AreConstraints k [] = Unit {0}
 AreConstraints k (p ∷ ps) = (IsNamed k p.0 × (p.0 ≢ regions.Unique) × IsNamed k p.1 × (p.1 ≢ regions.Unique)) × AreConstraints k ps
 
--- Says that no parameter is a key of the region r. Since no parameter is a key of a region of the
--- effect, such a region is not already open when a key opens it.
+-- Says that no parameter is a key of the region r. No region of a function's effect has its key among the parameters, so a region that a
+-- parameter's key opens is not already open.
 abbrev pub IsKeyless : Region → List Ty → Type 0
 IsKeyless r [] = Unit {0}
 IsKeyless r (t ∷ ts) = (t ≢ Key r) × IsKeyless r ts
@@ -425,8 +425,9 @@ abbrev pub AreKeyless : List Region → List Ty → Type 0
 AreKeyless [] ts = Unit {0}
 AreKeyless (r ∷ rs) ts = ((r ≢ regions.Unique) × IsKeyless r ts) × AreKeyless rs ts
 
--- Says that a function's body is well-typed in the scope of its parameters. A well-typed function declares exactly the locals and
--- regions that it counts. The types of a well-typed function mention only the regions of its parameters.
+-- Says that a function's body is well-typed in the scope of its parameters. A well-typed function records exactly the types of the locals
+-- that its body declares. The number of regions of a well-typed function counts its own region, those that its parameters name, and those
+-- that its body declares. The types of a well-typed function's parameters and result contain only regions that the parameters name.
 pub record IsWellTypedFunction (p : Program) (h : Function) : Type 0 where
   pub body : WellTypedItems (body_context p h) h.body
   pub own : h.region ≡ 0

@@ -23,7 +23,7 @@ use Rattle.cyc_operands.specs.declared.made.Made.{Made as MadeCode}
 use Rattle.cyc_typing.specs.declared.places.Reached.{Reached as ReachedCode}
 use Rattle.cyc_typing.specs.declared.objects.Placed.{Placed as PlacedCode}
 
--- puts an operation before the remaining operations of a chain of operators
+-- puts an operator and its right operand before the list of the further operators of the same expression, each with its right operand
 abbrev pub put_operation : Operation → typed.Operations → typed.Operations
 put_operation (operation.Compute s o e) = typed.ThenCompute o (view.view_expression e)
 put_operation (operation.Test o e) = typed.ThenTest o (view.view_expression e)
@@ -66,7 +66,8 @@ abbrev pub stored_in : typed.Side → typed.Converted → ValueType → typed.Ex
 stored_in (typed.VariableSide l t) c u = typed.Assign l c u
 stored_in (typed.CellSide d) c u = typed.Store d c u
 
--- Says that one operation was added at the end of a chain's operations, and that the function returns the type of the operation's result.
+-- Says that one operator with its right operand was added at the end of an expression's list of operators. The function returns the type
+-- of the operator's result.
 abbrev pub Joins : (old new : List Operation) → Result TyCode Stop → Checked Joined → Type 0
 Joins old new (Ok t) checked = (o : Operation) × (new ≡ old ++ o ∷ []) × (checked ≡ Ok (put_operation o, view_ty t))
 Joins old new (Err e) checked = Stops e checked

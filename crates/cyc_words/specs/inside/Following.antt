@@ -2,9 +2,9 @@
 -- several passes compose to `Preserves`. The form of simulation for passes is this project's own choice.
 --
 -- A state of the lower machine is matched with a state of the upper machine. A step of the upper machine is matched by a sequence of
--- steps of the lower machine at code positions that the upper step owns, each visited at most once. For any price of positions, the
--- matching sequence costs at most the sum over the positions that the upper step owns, through any number of passes. If each machine word
--- of the code has the price one, then this sum bounds the number of instructions.
+-- steps of the lower machine. These steps are at code positions that are assigned to the upper step, each visited at most once. For any
+-- price of positions, the matching sequence costs at most the sum over the positions assigned to the upper step, through any number of
+-- passes. If each machine word of the code has the price one, then this sum bounds the number of instructions.
 use Rattle.std.specs.Prelude.{◌≡◌, ℕ, ◌+◌, ◌≤◌, ◌<◌, ◌⊎◌, List, [], ◌∷◌, length, sum_by, Contains}
 use Rattle.std.specs.List.{AllByRecursion}
 use Rattle.cyc_words.specs.Distinct.{IsDistinct}
@@ -39,12 +39,12 @@ pub record IsUnderWay (above below : Machine) (before : List below.Place) (own :
   pub path : Path above places start state
   pub running : above.status state ≡ Running
   pub goes_on : below.status now ≡ Running
-  -- All output and input of the upper machine has happened in the lower machine, and the
-  -- observation of the lower machine may still occur in the upper machine.
+  -- All output and input of the upper machine has happened in the lower machine, and the observation of the lower machine may still occur
+  -- in the upper machine.
   pub ahead : ComesTo (above.seen state) (below.seen now)
   pub following : MayShow above start (below.seen now)
-  -- All positions visited, including the current one, cost at most as much as the positions that all upper steps own, including the
-  -- current step. A position is visited at most once for each step that owns it.
+  -- All code positions visited so far cost at most as much as the initial positions and those assigned to all upper steps,
+  -- including the current step. A position is visited at most once for each step to which it is assigned.
   pub cost : (price : below.Place → ℕ)
       → sum_by price met + price (below.place now)
       ≤ sum_by price before + sum_by (λ p. sum_by price (own p)) places + sum_by price (own (above.place state))
@@ -59,8 +59,8 @@ pub record IsOver (above below : Machine) (start : above.State) (now : below.Sta
   pub over : below.status now ≡ Ended ending
   pub seen : below.seen now ≡ above.seen state
 
--- Says that each run of the lower machine is explained by a run of the upper machine. The lower run is in the middle of a step, or both
--- runs have ended. In particular no run of the lower machine fails.
+-- Says that each run of the lower machine corresponds to a run of the upper machine. The lower run is in the middle of an upper step,
+-- or both runs have ended. In particular no run of the lower machine fails.
 pub record Follows (above below : Machine) (before : List below.Place) (own : above.Place → List below.Place) (start : above.State) (from : below.State) : Type 0 where
   pub runs : (met : List below.Place) (now : below.State) → Path below met from now
       → IsUnderWay above below before own start met now ⊎ IsOver above below start now
@@ -90,22 +90,23 @@ pub record Matching (above below : Machine) : Type 1 where
   pub alike : (s : above.State) (t : below.State) → Matches s t → below.seen t ≡ above.seen s
   pub endings : (s : above.State) (t : below.State) (ending : Ending) → Matches s t → above.status s ≡ Ended ending → below.status t ≡ Ended ending
 
--- Says that a step of the upper machine is taken and that its result is matched. If the lower machine
--- took no step, then the weight has decreased.
+-- Says that a step of the upper machine is taken and that its result is matched. If the lower machine took no step, then the weight (the
+-- bound on consecutive upper steps without lower ones) has decreased.
 pub record IsMatchedStep (above below : Machine) (m : Matching above below) (state : above.State) (places : List below.Place) (now : below.State) : Type 0 where
   pub next : above.State
   pub step : above.Step state next
   pub matches : m.Matches next now
   pub lighter : length places ≡ 0 → m.weight next < m.weight state
 
--- Says that one step of the upper machine is matched for every choice that the lower machine makes.
+-- Says that one step of the upper machine is matched by steps of the lower machine, whatever nondeterministic choices the lower machine
+-- makes.
 pub record IsStepped (above below : Machine) (m : Matching above below) (state : above.State) (now : below.State) : Type 0 where
   pub places : List below.Place
   pub distinct : IsDistinct places
   pub inside : AllByRecursion (Contains (m.own (above.place state))) places
   pub comes : Comes below (IsOnTheWay above below state) (IsMatchedStep above below m state places) places now
 
--- Says that every step from matched states is matched, provided that no step of the upper machine fails.
+-- Says that every step of the upper machine from matched states is matched by the lower machine, provided that this step cannot fail.
 abbrev pub Steps : (above below : Machine) → Matching above below → Type 0
 Steps above below m = (s : above.State) (t : below.State) → m.Matches s t → above.status s ≡ Running
     → ((next : above.State) → above.Step s next → above.status next ≡ Failed → ⊥)

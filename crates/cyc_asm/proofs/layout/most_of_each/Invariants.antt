@@ -4,8 +4,8 @@ use Rattle.std.specs.Vec.{vec_len, vec_capacity}
 use Rattle.cyc_asm.specs.inside.Layout.{most_before}
 use Rattle.cyc_asm.proofs.layout.most_of_each.Given as goal
 
--- Loop invariant: the table's entries for the lines visited so far and for the next one are
--- correct, and the list has capacity for all lines.
+-- Loop invariant: the table has the most words before each line visited so far, and the count for
+-- the next line is known. The list has capacity for all lines.
 abbrev pub invariant-loop-line : goal.invariant-loop-line
 invariant-loop-line l =
     (l.most.items ≡ map (most_before l.lines) (range_with_len 0 l.line-index)) × (l.before ≡ most_before l.lines l.line-index)

@@ -5,7 +5,7 @@ use Rattle.cyc_asm.specs.inside.Slots.{is_unreached_before}
 use Rattle.cyc_asm.specs.inside.Layout.{position}
 use Rattle.cyc_asm.proofs.layout.position_of_each.Given as goal
 
--- Loop invariant: the table's entries for the lines visited so far and for the next one are correct. The reachability of the last line is
+-- Loop invariant: the table has the positions of all lines visited so far and of the next one. The reachability of the last line is
 -- known, and the list has capacity for all entries.
 abbrev pub invariant-loop-number : goal.invariant-loop-number
 invariant-loop-number l =

@@ -1,4 +1,4 @@
--- The law that the bound on calls holds.
+-- The law that no run has more active calls than the bound states.
 use Rattle.cyc_bound.proofs.CallRuns.{depth_within, calls_within, runs_alike}
 use Rattle.cyc_bound.proofs.laws.calls_stay_within.Goals as goal
 

@@ -1,4 +1,4 @@
--- The law that the bound on pages holds.
+-- The law that no run requests more heap pages than the bound states.
 use Rattle.cyc_bound.specs.Pages.{most_pages}
 use Rattle.cyc_bound.proofs.PageRuns.{demand_within, pages_within, runs_alike}
 use Rattle.cyc_bound.proofs.laws.pages_stay_within.Goals as goal

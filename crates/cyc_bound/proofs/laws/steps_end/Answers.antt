@@ -1,4 +1,4 @@
--- The law that the bound on steps holds.
+-- The law that each run has ended after as many steps as the bound states.
 use Rattle.cyc_bound.proofs.CostRuns.{runs_end}
 use Rattle.cyc_bound.proofs.laws.steps_end.Goals as goal
 

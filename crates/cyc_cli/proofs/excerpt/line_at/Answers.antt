@@ -4,7 +4,7 @@ use Rattle.std.proofs.lemmas.Option.{unwrap_or-slice_get}
 use Rattle.cyc_cli.specs.inside.Excerpt.{lines_of}
 use Rattle.cyc_cli.proofs.excerpt.line_at.Goals as goal
 
--- After the last line the text has no further piece, so the line is empty.
+-- If a text is split at its line feeds, nothing follows the last line; a line number past the last line denotes an empty line.
 pub returns-in-None : goal.returns-in-None
 returns-in-None c =
     let none = rw (c.saturating_sub.ensures) at c.in-None.ensures in

@@ -113,7 +113,7 @@ check_selection-returns-clause-gives t c =
     let one = one_of IsReached c.in_ok-cell.cell (run (rule_postfixed c.args.scope.now (place_of_span c.args.span) (gives (view_boxed c.args.value)) (postfixes_of c.args.postfixes.now))) c.in_ok-cell.ensures.gives in
     subst (λ o. Gives view_boxed c.loaded.result (and_then o (λ w. run (loaded (place_of_span c.args.span) w)))) (sym one.1) (c.loaded.ensures one.0 one.2)
 
--- checking several postfixes equals checking the first postfix and then the remaining ones
+-- checking several postfixes (such as `[i]` and `->f`) equals checking the first postfix and then the remaining ones
 pub check_postfixes-loop-i-init : goal.check_postfixes-loop-i-init
 check_postfixes-loop-i-init t c =
     let one = one_of IsReached c.in_ok-cell.cell (one_postfix c.args.scope.now (place_of_span c.args.span) (view_boxed c.args.value) c.index-postfixes-0.result) c.in_ok-cell.ensures.gives in

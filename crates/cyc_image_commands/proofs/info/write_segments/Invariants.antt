@@ -1,4 +1,4 @@
--- Invariant: the lines of the segments visited so far are written.
+-- Invariant: the text lines about the segments visited so far are written.
 use Rattle.std.proofs.Common.{map, take, flat_map}
 use Rattle.std.specs.Fmt.{HasWritten, IsPlainFormatter}
 use Rattle.cyc_image_commands.specs.inside.Info.{extent_in, segment_line}

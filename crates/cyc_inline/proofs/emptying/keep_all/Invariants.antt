@@ -5,7 +5,8 @@ use Rattle.cyc_inline.specs.inside.Changes.{notes_of}
 use Rattle.cyc_inline.specs.inside.Emptied.{routines_kept, notes_kept}
 use Rattle.cyc_inline.proofs.emptying.keep_all.Given as goal
 
--- Invariant: the functions kept so far, followed by the kept functions of the rest, are the complete list.
+-- Invariant: the functions of the new program built so far, followed by those that the loop will still
+-- build, are the complete list of functions.
 abbrev pub invariant-loop-function : goal.invariant-loop-function
 invariant-loop-function l =
     (map routine_of l.functions.items ++ routines_kept (map routine_of (into_iter_items l.function-iterator)) (into_iter_items l.reached)

@@ -3,7 +3,7 @@ use Rattle.std.specs.Vec.Iter.{into_iter_items, into_iter_len}
 use Rattle.cyc_inline.specs.inside.Changes.{replaced, noted}
 use Rattle.cyc_inline.proofs.replacing.replace.Given as goal
 
--- Invariant: the functions replaced so far, followed by the replacements of the remaining functions, are the complete list.
+-- Invariant: the new functions built so far, followed by those still to be built from the remaining functions, are the complete list.
 abbrev pub invariant-loop-function : goal.invariant-loop-function
 invariant-loop-function l =
     (l.functions.items ++ replaced (into_iter_items l.function-iterator) (into_iter_items l.changes) ≡ replaced l.fn.given.items l.fn.changes.items)

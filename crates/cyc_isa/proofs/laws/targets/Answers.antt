@@ -1,4 +1,4 @@
--- Proves the law that branch and jump targets are those computed with whole numbers.
+-- Proves the law that branch and jump targets are those computed with integers of any size, modulo 2^32.
 use Rattle.cyc_isa.proofs.EffectLemmas.{branch_target-unsigned, jump_target-upper, jump_target-lower}
 use Rattle.cyc_isa.proofs.laws.targets.Goals as goal
 

@@ -1,4 +1,5 @@
--- If the tree of a well-typed program meets the requirements on its nodes, then it also meets the requirements of lowering.
+-- If the typed tree of a well-typed program meets the requirements on its nodes, then it also meets the requirements of
+-- lowering, the pass that translates it to plain code.
 use Rattle.std.proofs.Common.{◌≡◌, ◌⊎◌, ℕ, ◌≤◌, ◌<◌, Bool, true, false, List, [], ◌∷◌, length, map, Option, None, Some, slice_get, refl, sym, ap, subst, ◌∙◌, arith, inl, inr, suc, length-append, zero, ◌++◌}
 use Rattle.std.specs.Prelude.{if◌then◌else◌, ◌||◌}
 use Rattle.std.proofs.lemmas.List.{length-map}

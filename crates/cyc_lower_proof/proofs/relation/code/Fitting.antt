@@ -1,5 +1,5 @@
--- This file states the requirements of lowering on a tree: each index in the tree denotes an existing thing, and each
--- destination has enough words for its value.
+-- This file states the requirements of lowering on a tree. Each index in the tree denotes a local, global, function,
+-- struct or loop counter that exists, and each destination has enough words for its value.
 use Rattle.std.proofs.Common.{◌≡◌, ℕ, ◌≤◌, ◌<◌, Bool, true, false, List, [], ◌∷◌, length, Option, None, Some, slice_get}
 use Rattle.cyc_words.specs.Word.{IsWord}
 use Rattle.cyc_types.specs.declared.typed.Kind.{Kind}
@@ -83,7 +83,8 @@ module _ (b : Numbering) where
     FitArguments types NoArguments = Unit {0}
     FitArguments types (MoreArguments c cs) = FitsConverted types c × FitArguments types cs
 
-    -- Says that the operators after a left operand of `left` machine words meet the requirements of lowering in a chain of type t.
+    -- Says that the operators after a left operand of `left` machine words meet the requirements of lowering, in an operator chain
+    -- whose values have type t.
     pub FitOperations : (types : Types) → (left : ℕ) → Ty → Operations → Type 0
     FitOperations types left t NoOperations = Unit {0}
     FitOperations types left t (ThenCompute o a os) = Fits types a × FitOperations types (words_of t) t os

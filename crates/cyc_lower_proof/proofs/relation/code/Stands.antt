@@ -92,14 +92,15 @@ module _ (code : List Instruction) where
   BlankAt kinds.Char slot p q = At code p (instructions.Move slot (operands.Word 0)) × (p + 1 ≡ q)
   BlankAt kind slot p q = p ≡ q
 
--- Says which code is from p to q, in a function with these bounds on indices, these local types, and temporaries from slot t on.
+-- States what instructions must be at the code positions from p to q, in a function with these bounds on indices, these local
+-- types, and temporaries from slot t on.
 module _ (code : List Instruction) (bounds : Numbering) (types : Types) where
   -- The first proposition if the flag is true, otherwise the second proposition.
   abbrev pub EitherBy : Bool → (there otherwise : Type 0) → Type 0
   EitherBy true first second = first
   EitherBy false first second = second
 
-  -- Holds if the operand needs no code, or if the code at p moves its value to a slot.
+  -- Holds if an expression is a slot or constant that needs no instructions, or if the code at p moves its value to a slot.
   abbrev pub OperandBy : Option Operand → (computed : Type 0) → (slot : ℕ) → Operand → (p q : ℕ) → Type 0
   OperandBy (Some known) computed slot o p q = (o ≡ known) × (p ≡ q)
   OperandBy None computed slot o p q = (o ≡ operands.Slot slot) × computed
@@ -110,7 +111,7 @@ module _ (code : List Instruction) (bounds : Numbering) (types : Types) where
   BroughtBy masking known computed slot at_once d p q =
       EitherBy masking ((o : Operand) × (r : ℕ) × OperandBy known (computed r) slot o p r × At code r (low_byte o d) × (r + 1 ≡ q)) at_once
 
-  -- Holds if the right operand is simple, that is, needs no code, or if the left operand is in a slot.
+  -- Holds if the right operand is simple (its evaluation has no effect), or if the left operand is in a slot.
   abbrev pub LeftBy : (simple : Bool) → (in_slot : Type 0) → Type 0
   LeftBy true in_slot = Unit {0}
   LeftBy false in_slot = in_slot
@@ -144,7 +145,7 @@ module _ (code : List Instruction) (bounds : Numbering) (types : Types) where
       (r : ℕ) × (s : ℕ) × ((x : ℕ) × At code p (instructions.Branch comparisons.Equal (operands.Slot n) (operands.Word 0) x) × null x × (p + 1 ≡ r))
       × BoundsAt (operands.Slot m) (operands.Slot (n + 1)) r s × SteppedAt span n m t s q
 
-  -- Holds if the code at p scales an index to the size of a cell; without a size it contains nothing.
+  -- Holds if the code at p multiplies an index by the size of a cell; if no size is given, then no code is required.
   abbrev pub ScaledAt : (span : Option ℕ) → (m x p q : ℕ) → Type 0
   ScaledAt None m x p q = p ≡ q
   ScaledAt (Some bytes) m x p q = At code p (scale_of bytes x m) × (p + 1 ≡ q)
@@ -330,7 +331,7 @@ module _ (code : List Instruction) (bounds : Numbering) where
         (given bounds.functions a ≡ kinds.Fat)
         × (r : Operand) × (m : ℕ) × OperandBy code bounds types (operand_of (starts_of types) a) (ExpressionAt types a (value_slot (starts_of types) a t) t p m) (value_slot (starts_of types) a t) r p m
         × CountAt code bounds types r d m q
-    -- Says that a char that is used as an int keeps its word.
+    -- Says that a char that is used as an int needs no conversion: the word that represents it is unchanged.
     ExpressionAt types (Unary unary.Widen a) d t p q = (words_of_kind (given bounds.functions a) ≡ 1) × ExpressionAt types a d t p q
     ExpressionAt types (Unary o a) d t p q =
         (r : Operand) × (m : ℕ) × OperandBy code bounds types (operand_of (starts_of types) a) (ExpressionAt types a (value_slot (starts_of types) a t) t p m) (value_slot (starts_of types) a t) r p m
@@ -455,7 +456,7 @@ module _ (code : List Instruction) (bounds : Numbering) (types : Types) where
       × OperandBy code bounds types (source_of (starts_of types) (Convert from to a)) (BroughtAt (Convert from to a) (source_slot (starts_of types) (Convert from to a) t) t p m) (source_slot (starts_of types) (Convert from to a) t) o p m
       × ConversionAt code bounds types from to (span_of a) o t m r × At code r (move_of (words_of_kind to) d o) × (r + 1 ≡ q))
 
-  -- Says that the code evaluates an expression whose value is then an operand.
+  -- Says that the code evaluates an expression whose value is then available in a slot or as a constant.
   abbrev pub ValueAt : Expression → (t : ℕ) → Operand → (p q : ℕ) → Type 0
   ValueAt a t o p q = OperandBy code bounds types (operand_of (starts_of types) a) (ExpressionAt code bounds types a (value_slot (starts_of types) a t) t p q) (value_slot (starts_of types) a t) o p q
 
@@ -512,8 +513,8 @@ module _ (code : List Instruction) (bounds : Numbering) (types : Types) where
         (f : ℕ) × (h : ℕ) × BranchesAt b f h t p × TestsAt os true t f goes × TestsAt os false t h goes
     TestsAt os fails t p goes = ⊥
 
-  -- Says that a loop with these targets of `break` and `continue`, and with a body at position `body`, is entered correctly. The loop
-  -- is entered through its condition, or by a jump to the condition after the body.
+  -- Says that a loop, with these targets of `break` and `continue` and with a body at position `body`, begins with one of two pieces
+  -- of code. It tests the condition and goes to the body or to the exit, or it jumps to the condition after the body.
   abbrev pub EntryAt : Expression → Exits → (body t test : ℕ) → Type 0
   EntryAt a exits body t test =
       BranchesAt a exits.leaving body t (continue_target exits)
@@ -531,13 +532,14 @@ module _ (code : List Instruction) (bounds : Numbering) (types : Types) where
   ComparesAt (ThenPointerPeek n o b NoOperations) failing l r t p q = PointersAt o b failing l r t p q
   ComparesAt os failing l r t p q = ⊥
 
-  -- Says that the code moves the assigned value to its variable, and that the value is an operand afterwards.
+  -- Says that the code moves the assigned value to its variable, and that the value is available afterwards in a slot or as a constant.
   abbrev pub AssignmentAt : Lvalue → Converted → Operand → (t p q : ℕ) → Type 0
   AssignmentAt (Local w n) c o t p q = (o ≡ operands.Slot (slot_of (starts_of types) n)) × HasRoom types n (kind_passed c) × InitialAt code bounds types c (slot_of (starts_of types) n) t p q
   AssignmentAt (Global n) c o t p q =
       (r : ℕ) × ConvertedOperandAt code bounds types c t o p r × HasGlobal types n (kind_passed c) × GlobalAt code (passed_words c) (global_of (starts_of types) n) o r q
 
-  -- Says that the code stores a value in a cell whose address is in slot t, and that the value is an operand afterwards.
+  -- Says that the code stores a value in a cell whose address is in slot t, and that the value is available afterwards
+  -- in a slot or as a constant.
   abbrev pub StoredAt : Dereference → Converted → (t : ℕ) → Operand → (p q : ℕ) → Type 0
   StoredAt x v t o p q =
       (a : Operand) × (c : ℕ) × (r : ℕ) × (s : ℕ) × (u : ℕ) × PlaceAt code bounds types x a c t p r × AddressAt code a c t r s × ConvertedOperandAt code bounds types v (t + 1) o s u

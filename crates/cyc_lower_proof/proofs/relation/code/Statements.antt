@@ -28,7 +28,8 @@ use Rattle.cyc_lower_proof.specs.inside.Lowering.{results_of}
 use Rattle.cyc_lower_proof.proofs.slots.Widths.{kind_of_result, HasRoom, HasGlobal, HasLocal}
 use Rattle.cyc_lower_proof.proofs.relation.code.Stands.{EachAt, GlobalAt, AddressAt, OverAt, BlankAt, OperandBy, ReturnedAt, ConversionAt, LoadAt, StoresAt, ExpressionAt, PlaceAt, InitialAt, PrintedAt, BroughtAt, ValueAt, BranchesAt, EntryAt, AssignmentAt, StoredAt}
 
--- Says which code is from p to q, in a function with these bounds on indices, these local types, and temporaries from slot t on.
+-- States what instructions must be at the code positions from p to q, in a function with these bounds on indices, these local
+-- types, and temporaries from slot t on.
 module _ (code : List Instruction) (bounds : Numbering) (types : Types) where
   -- ---- swaps
 

@@ -91,7 +91,8 @@ module _ (t : Tables) where
   IsWord-is kinds.Key (Key region) word words p same is = is ∙ ap (λ x. Some (Some x)) (sym same)
   IsWord-is kind v word words p same is = absurd is
 
-  -- The value of an operand is represented by words that begin at some position.
+  -- If an operand (a slot or a constant) holds a value, then some sequence of words represents this
+  -- value and begins with the operand's word.
   pub in_words : (v : Operand) (slots : Words) (o : Place) → IsIn t v slots o → (words : Words) × (p : ℕ) × (words p ≡ operand_word slots o) × Is t v.kind v.value words p
   in_words v slots (operands.Slot n) is = (slots, n, refl, is)
   in_words v slots (operands.Word w) is = ((λ (i : ℕ). w), 0, refl, IsWord-is v.kind v.value w (λ (i : ℕ). w) 0 refl is)
@@ -134,7 +135,8 @@ module _ (t : Tables) where
   pub Is-same : (kind : Kind) (v : Value) (words other : Words) (p q : ℕ) → ((i : ℕ) → i < words_of_kind kind → other (q + i) ≡ words (p + i)) → Is t kind v words p → Is t kind v other q
   Is-same kind v words other p q same is = words_same t kind v words other p q same is
 
-  -- If two maps from slots to words are equal below a height, then they hold equal values below this height.
+  -- If two maps from slots to words are equal in all slots below a bound, then a list of values that these
+  -- slots hold in one map is also held in the other.
   pub Holds-same : (slots other : Words) (base : ℕ) (vs : List Operand) → ((n : ℕ) → n < height base vs → other n ≡ slots n) → Holds t slots base vs → Holds t other base vs
   Holds-same slots other base [] same holds = tt
   Holds-same slots other base (v ∷ vs) same (is, holds) = (
@@ -142,7 +144,7 @@ module _ (t : Tables) where
     Holds-same slots other base vs (λ n below. same n (omega (arith, below))) holds,
   )
 
-  -- If two maps from slots to words are equal from the end of the locals on, then they hold equal values there.
+  -- If two maps from slots to words are equal in all slots from the end of the locals on, then these slots hold equal values in both maps.
   pub Holds-above : (slots other : Words) (base : ℕ) (vs : List Operand) → ((n : ℕ) → base ≤ n → other n ≡ slots n) → Holds t slots base vs → Holds t other base vs
   Holds-above slots other base [] same holds = tt
   Holds-above slots other base (v ∷ vs) same (is, holds) = (
@@ -162,7 +164,7 @@ module _ (t : Tables) where
         (subst (Is t v.kind v.value slots) (let e : first + (words_held vs + words_of_kind u.kind) ≡ first + words_of_kind u.kind + words_held vs = omega arith in e) is),
   )
 
-  -- Values that were pushed one by one are in push order in the slots.
+  -- Values that were pushed one by one on a list are in consecutive slots, in the order in which they were pushed.
   pub in_order : (slots : Words) (base : ℕ) (vs rest : List Operand) → Holds t slots base (vs ++ rest) → HoldsFrom t slots (height base rest) (reverse vs)
   in_order slots base [] rest holds = tt
   in_order slots base (v ∷ vs) rest (is, holds) =

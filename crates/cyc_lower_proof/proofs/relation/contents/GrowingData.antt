@@ -26,7 +26,7 @@ module _ (t u : Tables) (grows : Grows t u) where
   HoldsFrom-grows slots first [] holds = tt
   HoldsFrom-grows slots first (v ∷ vs) (is, holds) = (Is-grows grows v.kind v.value slots first is, HoldsFrom-grows slots (first + words_of_kind v.kind) vs holds)
 
-  -- If an object had a row in the table of objects, then it keeps this row.
+  -- If the table of objects grows, then an object that already had a row in this table keeps its row.
   char_before : (object : ℕ) (row : Row) → slice_get t.rows object ≡ Some row → IsCharAt u object → IsCharAt t object
   char_before object row there (address, is) = (address, there ∙ (sym (grows.rows object row there) ∙ is))
 

@@ -154,15 +154,15 @@ AreCounted counters (entry ∷ k) = AreCounted counters k
 
 -- ---- new objects
 
--- Says that `handle` is the handle of the region in which an object with this owner is allocated. The handle is a constant, or it is in the
--- slot before t if the newest continuation frame holds it.
+-- Says that `handle` is the handle of the region in which an object with this owner (a region or a unique pointer) is allocated. The handle
+-- is a constant, or it is in the slot before t if the newest continuation frame holds it.
 abbrev pub IsHandleOf : Owner → (handle : Operand) → (t : ℕ) → List Entry → Type 0
 IsHandleOf (InRegion region) (operands.Word n) t k = (region ≡ heap_number) × (n ≡ HEAP)
 IsHandleOf (InRegion region) (operands.Slot n) t (Needs (BesideHandle beside) ∷ k) = (region ≡ beside) × (suc n ≡ t)
 IsHandleOf (Unique true) (operands.Word n) t k = n ≡ UNIQUE
 IsHandleOf owner handle t k = ⊥
 
--- Holds if `word` is the region handle with which objects of this owner are allocated.
+-- Holds if `word` is the region handle with which objects of this owner (a region or a unique pointer) are allocated.
 abbrev pub HasHandle : Tables → Owner → (word : ℕ) → Type 0
 HasHandle t (InRegion region) word = slice_get t.handles region ≡ Some (Some word)
 HasHandle t (Unique true) word = word ≡ UNIQUE
@@ -192,7 +192,7 @@ content_of (Some x) = content_of_cell (slice_get x.cells 0)
 abbrev pub contents : List Object → ℕ → Option Kinded
 contents objects number = content_of (slice_get objects number)
 
--- the code of a call, and the address of its first slot
+-- The instructions of the function that a call executes, and the address of the first slot of the call.
 pub record CallSlots : Type 0 where
   pub code : List Instruction
   pub base : ℕ

@@ -1,5 +1,5 @@
--- This file proves that declaring and assigning variables, and opening and closing their regions, preserves the invariant that source
--- run and lowered run share. The tables of objects get a row or an entry, and the heap store is unchanged.
+-- This file proves that declaring and assigning variables, and opening and closing their regions, preserves the invariant that source run
+-- and lowered run share. The table of objects gets a row, or the table of region handles gets an entry, and the heap store is unchanged.
 use Rattle.std.proofs.Common.{◌≡◌, ℕ, List, ◌∷◌, length, Option, None, Some, slice_get, ◌≤◌, refl, sym, ap, subst, ◌∙◌, arith}
 use Rattle.cyc_words.proofs.Lists.{slice_get_last}
 use Rattle.cyc_types.specs.declared.typed.Kind.{Kind}

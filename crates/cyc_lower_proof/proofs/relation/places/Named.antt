@@ -29,7 +29,8 @@ use Rattle.cyc_lower_proof.proofs.relation.simulation.Stacks.{code_of, types_at}
 use Rattle.cyc_lower_proof.proofs.relation.simulation.Shared.{silent}
 use Rattle.cyc_lower_proof.proofs.relation.places.Leads.{IsNamed, is_global, is_local, is_waiting, AreNamed}
 
--- A waiting call of the source has these locals in the list of waiting calls.
+-- If the source state has a waiting call with these locals, then the list of waiting calls has a call with the same locals at the same
+-- index.
 waits : (k : List Entry) (call : ℕ) (locals : Locals) → slice_get (waiting k) call ≡ Some locals → (x : Waiting) × (slice_get (callers k) call ≡ Some x) × (x.locals ≡ locals)
 waits [] call locals at = absurd (none-some locals at)
 waits (Caller e ∷ k) zero locals at = (_, refl, same_Some e.locals locals at)

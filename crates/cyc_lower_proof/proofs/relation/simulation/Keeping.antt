@@ -5,7 +5,8 @@ use Rattle.cyc_words.specs.inside.Following.{Matching, Comes, IsOnTheWay, IsMatc
 
 module _ (above below : Machine) (m : Matching above below) (Keeps : below.State → Type 0)
     (stays : (old new : below.State) → Keeps old → below.Step old new → Keeps new) where
-  -- A matching of two machines, restricted to the states of the lower machine that satisfy the invariant.
+  -- A matching of two machines, of which the lower one executes compiled code, restricted to the lower
+  -- machine's states that satisfy the invariant.
   abbrev pub keeping : Matching above below
   keeping = record {
     Matches = λ s t. m.Matches s t × Keeps t;
@@ -28,7 +29,8 @@ module _ (above below : Machine) (m : Matching above below) (Keeps : below.State
     comes = comes_keeping s is.places is.places t keeps is.comes;
   }
 
--- A matching of two machines, restricted to the states of the upper machine that satisfy an invariant.
+-- A matching of two machines, of which the upper one runs the source of the compilation, restricted to
+-- the upper machine's states that satisfy an invariant.
 module _ (above below : Machine) (m : Matching above below) (Keeps : above.State → Type 0)
     (stays : (old new : above.State) → Keeps old → above.Step old new → Keeps new) where
   abbrev pub keeping_above : Matching above below

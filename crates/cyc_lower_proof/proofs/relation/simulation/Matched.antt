@@ -84,7 +84,8 @@ module _ (source : Program) where
 
   -- ---- active calls
 
-  -- The open exception handlers determine the number of calls, continuation frame by continuation frame.
+  -- The calls on the source's control stack are one more than the plain machine's frames of waiting
+  -- calls, if the frames of the open handlers contain as many calls.
   counted_in : (t : Tables) (slots : Words) (handled k : List Entry) (e : Environment) (w : World) (c : Configuration) → calls_in handled ≡ calls_in k → DataFor source t slots handled k e w c → calls_in k ≡ suc (length c.frames)
   counted_in t slots handled k e w c same facts = sym same ∙ calls_counted source c.active.function slots c.active.handlers c.frames handled facts.1
 
@@ -203,7 +204,8 @@ module _ (source : Program) (pages calls : ℕ) where
   abbrev pub Executes : State → State → List CodePlace → plain.State → Type 0
   Executes s next places t = Comes below (IsOnTheWay above below s) (λ u. Matches source pages calls next u) places t
 
-  -- If there is an instruction at the current position, and every choice reaches a state that matches, then the plain machine executes it.
+  -- If there is an instruction at the current position, and every state that it may lead to matches a source state, then the plain machine
+  -- executes it.
   pub executes : (s next : State) (c : Configuration) (i : Instruction) (places : List CodePlace)
       → At (code_of source c.active.function) c.active.next i
       → ((choice : Choice) → plain_step.is_within pages calls (performed (lower_program source) choice c i) ≡ true)

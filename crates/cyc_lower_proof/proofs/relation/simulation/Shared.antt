@@ -27,7 +27,7 @@ pub record Shared (pages calls : ℕ) (w : World) (regions : List ℕ) (counting
   pub same_input : plain_input ≡ w.input
   pub related : objects.Related tables (silent w) store
   pub same_pages : store.pages ≡ pages
-  -- The region of the globals belongs to variables, and so do the regions of the list `regions`.
+  -- The region in which the globals are declared holds variables and has no handle, and so do the regions of the list `regions`.
   pub globals : slice_get tables.handles globals_number ≡ Some None
   pub variables : AreOfVariables tables regions
   pub few_pages : demand store ≤ pages

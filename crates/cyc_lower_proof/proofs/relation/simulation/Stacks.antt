@@ -62,8 +62,8 @@ module _ (source : Program) where
   abbrev pub bounds_at : ℕ → Numbering
   bounds_at g = bounds_in (slice_get source.functions g)
 
-  -- The types of a function's locals. The code of the function also needs the structs, the position
-  -- of the exception blocks, and the first slots of the locals.
+  -- The types of a function's locals, and further data that the code of the function needs: the structs, the position of the blocks that
+  -- raise exceptions, and the first slots of the locals.
   abbrev pub local_types : Option Function → List Ty
   local_types None = []
   local_types (Some h) = slot_types h
@@ -81,7 +81,8 @@ module _ (source : Program) where
   abbrev pub starts_at : ℕ → Starts
   starts_at g = starts_of (types_at g)
 
-  -- The types and slots of a function with these continuation frames, some of which are for arrays that are being filled.
+  -- The types of a function's locals and further data of its layout, with the slots of the loop counters for arrays that
+  -- these continuation frames are filling.
   abbrev pub types_on : ℕ → List Entry → Types
   types_on g k = record { locals = local_types (slice_get source.functions g); structs = source.structs; raises = raises_in (slice_get source.functions g); counters = counters_of (after_records k (scopes_of source) (words_of_all (local_types (slice_get source.functions g)))) k; globals = global_types source.globals; scopes = scopes_of source }
 
@@ -169,7 +170,7 @@ module _ (source : Program) where
     in_temporary : free ≤ d → temporary → Lands base free d words temporary ahead
     in_local : d + words ≤ base → ahead → Lands base free d words temporary ahead
 
-  -- Says that the value of an assignment is in an operand: it is dropped, stays in the operand, or is moved to another slot.
+  -- Says that the value of an assignment is in a slot or constant, and is then dropped, kept there, or moved to another slot.
   pub data HandsOn (code : List Instruction) (words : ℕ) (o : Operand) (p : ℕ) (dropped stays : Type 0) (comes : (d q : ℕ) → Type 0) : Type 0 where
     drops : dropped → HandsOn code words o p dropped stays comes
     leaves : stays → HandsOn code words o p dropped stays comes
@@ -219,7 +220,8 @@ module _ (source : Program) where
   abbrev pub IsPlaceOf : (ℕ → Option ℕ) → Lvalue → Value → Type 0
   IsPlaceOf locals l place = (object : ℕ) × (place ≡ Thin object 0) × (object_of (record { locals = locals; home = 0; counters = λ level. None }) l ≡ Some object)
 
-  -- Says that the code stores an operand in a variable of this kind, and that the value is in another operand afterwards.
+  -- Says that the code stores an operand (a slot or constant) in a variable of this kind. Afterwards the stored value is
+  -- available in another operand.
   abbrev pub StoreAt : (g : ℕ) → Kind → Lvalue → (from to : Operand) → (p q : ℕ) → Type 0
   StoreAt g kind (Local w n) from to p q =
       At (code_of g) p (move_of (words_of_kind kind) (slot_of (starts_at g) n) from) × (p + 1 ≡ q) × (to ≡ operands.Slot (slot_of (starts_at g) n))
@@ -266,12 +268,12 @@ module _ (source : Program) where
   abbrev mutual
     pub ValueStack : (g : ℕ) → (ℕ → Option ℕ) → Kind → Operand → (p : ℕ) → List Frame → List Entry → Type 0
     ValueStack g locals kind o p frames [] = ⊥
-    -- An int that becomes a char is moved to another slot, and any other value stays in its operand.
+    -- An int that becomes a char is moved to another slot, and any other value stays in its slot or constant.
     ValueStack g locals kind o p frames (Needs (ConvertTo from to target) ∷ k) =
         ((d : ℕ) × (to ≡ kinds.Char) × At (code_of g) p (low_byte o d)
         × Lands (base_of g) (top g k) d 1 (ValueStack g locals kinds.Char (operands.Slot d) (p + 1) frames k) (AheadStack g locals kinds.Char d (p + 1) frames k))
         ⊎ ((q : ℕ) × (masks from to ≡ false) × ConversionAt (code_of g) (bounds_at g) (types_on g k) from to (option_map bytes_of_kind target) o (top g k) p q × ValueStack g locals to o q frames k)
-    -- A char that is used as an int stays in its operand.
+    -- A char that is used as an int needs no instruction: its value stays in the same slot or constant.
     ValueStack g locals kind o p frames (Needs (Operate unary.Widen) ∷ k) = ValueStack g locals kinds.Int o p frames k
     ValueStack g locals kind o p frames (Needs (Operate operator) ∷ k) =
         Yields ((d : ℕ) × At (code_of g) p (unary_instruction operator d o)
@@ -392,7 +394,7 @@ module _ (source : Program) where
     ValueStack g locals kind o p frames (entry ∷ k) = ⊥
 
     -- Says that the code from position p on uses the address of a memory access and then executes the continuation frames. This
-    -- address is the word of an operand plus a number of bytes.
+    -- address is the word of a slot or constant plus a number of bytes.
     pub PlaceStack : (g : ℕ) → (ℕ → Option ℕ) → Operand → (c p : ℕ) → List Frame → List Entry → Type 0
     PlaceStack g locals o c p frames (NeedsPlace (LoadFrom cell) ∷ k) =
         (d : ℕ) × (q : ℕ) × LoadedAt (code_of g) cell o c d (top g k) p q
@@ -426,7 +428,7 @@ module _ (source : Program) where
     DecidedStack g fails p frames (Needs (Test condition body) ∷ k) = RepeatedAt g (floor g k) condition body (λ exits q. StatementStack g exits q frames k) fails p
     DecidedStack g fails p frames k = ⊥
 
-    -- Says that the code from position p on executes the continuation frames after a value that is dropped and is in no slot.
+    -- Says that the code from position p on executes the continuation frames after a value that is dropped, so that no slot holds it.
     pub DroppedStack : (g p : ℕ) → List Frame → List Entry → Type 0
     DroppedStack g p frames (Discard ∷ k) = (exits : Exits) × StatementStack g exits p frames k
     DroppedStack g p frames k = ⊥
@@ -447,7 +449,7 @@ module _ (source : Program) where
         (exits : Exits) × (q : ℕ) × (slot_of (starts_at g) number ≡ n) × HasRoom (types_at g) number kind × (kind_in (types_at g).locals number ≡ wanted) × ItemsAt (code_of g) (bounds_at g) (types_at g) items exits (floor g k) p q × StatementStack g exits q frames k
     AheadStack g locals kind n p frames k = ⊥
 
-    -- Says that the code from position p on executes the continuation frames, which await no value.
+    -- Says that the code from position p on executes the continuation frames, none of which needs a value from what was executed before.
     pub StatementStack : (g : ℕ) → Exits → (p : ℕ) → List Frame → List Entry → Type 0
     StatementStack g exits p frames (Rest items ∷ k) =
         (q : ℕ) × ItemsAt (code_of g) (bounds_at g) (types_at g) items exits (floor g k) p q × StatementStack g exits q frames k

@@ -1,4 +1,5 @@
--- This file defines the weight of a source state, which falls with each step that no plain instruction matches.
+-- This file defines the weight of a source state: a measure that decreases in each source step for which the
+-- plain program executes no instruction.
 use Rattle.std.proofs.Common.{ℕ, suc, ◌+◌, List, [], ◌∷◌, Option, None, Some, length}
 use Rattle.cyc_types.specs.TypedTrees.{Array, Load, New, ByHandle, Initial, HeapRegion, FreeKey, Plain, Fields, Dereference, Target, Expression, Number, NullPointer, Copy, Call, Unary, Binary, Assign, Converted, Convert, Arguments}
 use Rattle.cyc_types.specs.TypedTrees.{NoArguments, MoreArguments, Operations, NoOperations, ThenCompute, ThenTest, ThenPointer, Statement, Block, Empty, Evaluate, If, While, Break, Continue, Items, NoItems, MoreItems, Execute, Declare}
@@ -6,8 +7,9 @@ use Rattle.cyc_types.specs.TypedTrees.{OpenRegion, DeclareAlias, Move, Peek, The
 use Rattle.cyc_types.specs.TypedTrees as typed
 use Rattle.cyc_meaning.specs.State.{Awaiting, Chain, Pass, PlaceBy, MakeFields, Initialise, OpenBy, AliasOf, Entry, Needs, Rest, Loop, Focus, Evaluating, Locating, Executing, Entering, Binding, State, Running, AwaitingPlace, StoreTo, NeedsPlace, SwapLeft, Writing, Catching, Index}
 
--- An expression that is an operand may have no code. An expression that begins with a subexpression weighs more than the subexpression and
--- its continuation frame. A test whose outcome is decided has no weight; in an undecided test, the first operand needs no weight.
+-- An expression that is an operand may have no code. The weight of an expression, a measure for source steps without plain instructions,
+-- exceeds that of its first subexpression with the continuation frame. A test by `&&` or `||` whose outcome is decided has no weight; in
+-- an undecided test, the first operand needs no weight.
 abbrev mutual
   pub expression_weight : Expression → ℕ
   expression_weight (Number n) = 1
@@ -36,13 +38,13 @@ abbrev mutual
   dereference_weight (Member k a s f t) = suc (suc (expression_weight a))
   dereference_weight (Element a i t) = suc (suc (suc (expression_weight a + expression_weight i)))
 
-  -- the weight of the expressions that give a new object its initial values
+  -- The weight (a measure for source steps without plain instructions) of the expressions that give a new object its initial values.
   pub object_weight : Initial → ℕ
   object_weight (Plain kind a) = expression_weight a
   object_weight (Fields cs) = arguments_weight cs
   object_weight (Array w level n kind a) = expression_weight n
 
-  -- the weight of a converted value
+  -- The weight (a measure for source steps without plain instructions) of a converted value.
   pub converted_weight : Converted → ℕ
   converted_weight (Convert from to a) = suc (expression_weight a)
 
@@ -57,7 +59,7 @@ abbrev mutual
   operations_weight (ThenPointer o a os) = suc (suc (expression_weight a + operations_weight os))
   operations_weight (ThenPointerPeek n o a os) = suc (suc (expression_weight a + operations_weight os))
 
--- The weight of one operand of a swap, with its continuation frame.
+-- The weight (a measure for source steps without plain instructions) of one operand of a swap, with its continuation frame.
 abbrev pub side_weight : Side → ℕ
 side_weight (VariableSide l t) = 0
 side_weight (CellSide x) = suc (dereference_weight x)
@@ -98,7 +100,8 @@ clauses_weight NoClauses = 1
 clauses_weight (Default r js) = suc (suc (suc (items_weight js)))
 clauses_weight (Case tag x r js cs) = 0
 
--- Each continuation frame has a weight, so a stack becomes lighter when a frame is removed.
+-- Each continuation frame has a positive weight, so the control stack's weight, which must fall in
+-- source steps without plain instructions, falls when a frame is removed.
 abbrev pub awaiting_weight : Awaiting → ℕ
 awaiting_weight (Chain os) = operations_weight os
 awaiting_weight (Index peek target i) = suc (expression_weight i)

@@ -296,7 +296,8 @@ module _ (source : Program) (pages calls : ℕ) (well_typed : AreWellTypedGlobal
 
   follows_source : (base : ℕ) (store : StoreState) (input : List ℕ) → IsNew pages store → 1 ≤ pages → pages ≤ MOST_PAGES → 1 ≤ calls → AllByRecursion (λ b. b < 256) input
       → IsBelow (lower_program source) (lower_program source).main base slots_end → FollowsSource source (lower_program source) pages calls base store input
-  -- The proof uses the plain machine that checks equal limits at each instruction, because the lowered code has no `Enter`.
+  -- The proof uses a plain machine that checks the same page and call limits at every instruction. This is justified since
+  -- the lowered code has no `Enter` instruction.
   follows_source base store input new some_page few_pages some_call bytes lies never =
       let (h, starts, there) = from_start (slice_get source.functions source.main) input refl some_call (never 0 (start source input) refl) in
       follows_uniform (lower_program source) (no_enter source typed_words) pages calls (above source pages calls) [] (λ state. places_of (lower_program source)) (start source input) (plain_step.start (lower_program source) base store input)

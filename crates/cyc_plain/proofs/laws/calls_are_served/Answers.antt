@@ -1,4 +1,4 @@
--- The proof of the law about requests to the store (the heap of regions).
+-- The proof of the law that a request is served unless the store (heap of regions) refuses it, or the run ends if memory is lacking.
 use Rattle.cyc_plain.proofs.Steps.{step_serves, step_full}
 use Rattle.cyc_plain.proofs.laws.calls_are_served.Goals as goal
 

@@ -1,4 +1,4 @@
--- The proof of the law about `Enter`, which checks for stack space.
+-- The proof of the law that `Enter` ends the run exactly if the stack has no space for a call of its function.
 use Rattle.cyc_plain.proofs.Rooms.{as_called, enters, enters_full}
 use Rattle.cyc_plain.proofs.laws.room_is_asked.Goals as goal
 

@@ -1,4 +1,4 @@
--- The proof of the law about programs without `Enter`, which check for no stack space.
+-- The proof of the law that a program without `Enter` has the same steps as on the machine whose limit of calls never changes.
 use Rattle.cyc_plain.proofs.Uniform.{of_uniform, to_uniform}
 use Rattle.cyc_plain.proofs.laws.room_is_not_asked.Goals as goal
 

@@ -1,4 +1,4 @@
--- The proof of the law about writes to slots.
+-- The proof of the law that a slot contains the word last written or copied to it.
 use Rattle.cyc_plain.proofs.SlotLaws.{put-same, put-other, copied-inside, copied-below, copied-above}
 use Rattle.cyc_plain.proofs.laws.slots_hold.Goals as goal
 

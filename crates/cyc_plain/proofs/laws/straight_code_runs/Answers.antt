@@ -1,4 +1,4 @@
--- The proof of the law about runs of straight-line code.
+-- The proof of the law that runs of straight-line code reach the configuration that the code determines.
 use Rattle.cyc_plain.proofs.Straight.{runs, following-distinct}
 use Rattle.cyc_plain.proofs.laws.straight_code_runs.Goals as goal
 

@@ -1,7 +1,7 @@
 use Rattle.std.proofs.Common.{◌≡◌, ℕ, ◌<◌, ◌≤◌, None, Some, get_or, length}
 use Rattle.cyc_rawpages.proofs.block.clear.Given as goal
 
--- Invariant: the cells from the first one up to the index contain 0, and all other cells are unchanged.
+-- Invariant: the cells from index `from` up to the loop's index contain 0, and all other cells are unchanged.
 abbrev pub invariant-loop-index : goal.invariant-loop-index
 invariant-loop-index l = record {
   at : l.cells.at ≡ l.fn.cells.at;

@@ -3,7 +3,7 @@ use Rattle.cyc_registers.specs.inside.Interference.{home_of}
 use Rattle.cyc_registers.specs.inside.Sharing.{suits}
 use Rattle.cyc_registers.proofs.sharing.all_suit.Given as goal
 
--- Invariant: each home examined so far is correct, as far as this depends on its slot alone.
+-- Invariant: the home (register or memory) of each slot examined so far is correct, as far as this depends on the slot alone.
 abbrev pub invariant-loop-slot : goal.invariant-loop-slot
 invariant-loop-slot l =
     (k : ℕ) → k < l.slot

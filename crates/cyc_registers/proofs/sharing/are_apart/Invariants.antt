@@ -3,7 +3,7 @@ use Rattle.std.specs.Prelude.{slice_get}
 use Rattle.cyc_registers.specs.inside.Sharing.{is_apart}
 use Rattle.cyc_registers.proofs.sharing.are_apart.Given as goal
 
--- Invariant: no two slots of a group (slots that share a register) examined so far interfere at the instruction.
+-- Invariant: of the groups of slots that share a register examined so far, no group has two slots that interfere at the instruction.
 abbrev pub invariant-loop-number : goal.invariant-loop-number
 invariant-loop-number l =
     (k slots : ℕ) → slice_get l.groups k ≡ Some slots → k < l.number → is_apart l.written l.following slots ≡ true

@@ -6,7 +6,7 @@ use Rattle.cyc_words.specs.Fault.{memory_fault}
 use Rattle.cyc_front.specs.Front.{IsRefusedText}
 use Rattle.cyc_rendering.proofs.further.refused_reading.Goals as goal
 
--- If a fault's code is not that of lack of memory, the fault is a fault of the text.
+-- If the code of a fault is not the code for lack of memory, the fault is a fault of the text.
 left_over : (text : List ℕ) (f : Fault) → false ≡ sameb the_type f.code memory_fault.code → (f ≡ memory_fault) ⊎ IsRefusedText text f → IsRefusedText text f
 left_over text f other (inl memory) =
     let e : false ≡ sameb the_type memory_fault.code memory_fault.code = subst (λ (x : Fault). false ≡ sameb the_type x.code memory_fault.code) memory other in

@@ -14,20 +14,20 @@ use Rattle.cyc_front.specs.Front.{names_in, IsRefusedText}
 use Rattle.cyc_rendering.specs.inside.Reading.{HasTree}
 use Rattle.cyc_rendering.proofs.reading.tree_of.Goals as goal
 
--- Two equal lists of token codes denote the same tokens of the text.
+-- Two equal lists of the lexer's token codes denote the same tokens of the text.
 lexed : (text : List ℕ) (ts us : List TokenCode) → us ≡ ts
     → (tokens : List Token) × lexer.IsAccepted text tokens × (map (token_of text) ts ≡ tokens) → lexer.IsAccepted text (map (token_of text) us)
 lexed text ts us same (tokens, is, view) =
     subst (λ x. lexer.IsAccepted text (map (token_of text) x)) (sym same) (subst (lexer.IsAccepted text) (sym view) is)
 
--- The tree that the parser returns for the text's tokens is the tree of the text.
+-- The syntax tree that the parser returns for the text's tokens is the syntax tree of the text.
 parsed : (text : List ℕ) (tokens : List Token) → lexer.IsAccepted text tokens → (result : Result Tree Fault)
     → IfOk result (λ t. (tree : List Declaration) × parser.IsAccepted tokens tree × (declarations_of t ≡ tree))
     → IfOk result (λ t. t.names ≡ names_in tokens) → IfOk result (HasTree text)
 parsed text tokens is (Ok t) (tree, has, view) names = (tokens, is, subst (parser.IsAccepted tokens) (sym view) has, names)
 parsed text tokens is (Err f) has names = tt
 
--- A fault of the lexer is a fault of the text, and so is a fault of the grammar in the text's tokens.
+-- A fault that the lexer finds is a fault of the text, and so is a fault of the grammar in the text's tokens.
 refused_tokens : (text : List ℕ) (f : Fault) → (f ≡ memory_fault) ⊎ lexer.IsRefused text f → (f ≡ memory_fault) ⊎ IsRefusedText text f
 refused_tokens text f (inl memory) = inl memory
 refused_tokens text f (inr r) = inr (inl r)

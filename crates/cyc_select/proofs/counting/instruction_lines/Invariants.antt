@@ -6,7 +6,8 @@ use Rattle.cyc_select.specs.inside.Counts.{code_count}
 use Rattle.cyc_select.specs.inside.Emission.{instruction_lines, most_lines}
 use Rattle.cyc_select.proofs.counting.instruction_lines.Given as goal
 
--- Loop invariant: the line numbers computed so far, followed by those of the remaining instructions, are the function's whole table.
+-- Loop invariant: the line numbers computed so far, followed by those of the remaining instructions, are the line numbers of all
+-- instructions of the function.
 abbrev pub invariant-loop-index : goal.invariant-loop-index
 invariant-loop-index l =
     (l.lines.items ++ instruction_lines l.plain l.frames l.function l.index l.here (drop l.index l.code)

@@ -1,4 +1,4 @@
--- This file proves the law that programs of texts are sound.
+-- This file proves the law that no run of a program derived from a source text accesses freed memory or goes wrong.
 use Rattle.cyc_soundness.proofs.FormedLemmas.{typed_sound}
 use Rattle.cyc_soundness.proofs.laws.typed_programs_are_sound.Goals as goal
 

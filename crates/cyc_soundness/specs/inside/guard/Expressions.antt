@@ -1,13 +1,13 @@
--- This file defines the flow rules for expressions, in the form for proofs about runs. The flow rules relate the facts before an
--- expression to the facts after it, under a guard. The rules are relations by recursion on the tree, and each leaf may forget facts. At
--- the join of branches, the facts of both branches are weakened to one common state.
+-- This file defines the flow rules for expressions, in the form for proofs about runs. The flow rules relate the facts about locals
+-- before an expression to the facts after it, under a guard. The rules are relations by recursion on the tree, and each rule for a leaf
+-- of the tree may forget facts. At the join of branches, the facts of both branches are weakened to one common state.
 use Rattle.std.specs.Prelude.{true, false, Some}
 use Rattle.cyc_types.specs.TypedTrees.{Lvalue, Local, Global, Expression, Number, NullPointer, HeapRegion, Counter, Copy, Move, Peek, Load, AddressOf, AddressOfCell, NumberOfElements, FreeUnique, FreeKey, Call, Unary, Binary, Assign, Store, New, Dereference, Target}
 use Rattle.cyc_types.specs.TypedTrees.{Member, Element, Placement, OnHeap, AsUnique, ByHandle, Initial, Plain, Fields, Array, Converted, Convert, Arguments, NoArguments, MoreArguments, Operations, NoOperations, ThenCompute, ThenTest, ThenPointer, ThenPointerPeek}
 use Rattle.cyc_types.specs.flow.Expressions.{peek_of, peek_after}
 use Rattle.cyc_soundness.specs.inside.guard.Held.{Held, IsAtLeast, with_held, Guard, peeking, IsSeen, IsUsable, IsAssignable, IsSpared}
 
--- The rule for a variable that is used and keeps its value; globals are not tracked.
+-- The flow rule for a variable that is used and keeps its value; for globals no facts are recorded.
 abbrev pub KeepsUse : Guard → Lvalue → (before following : Held) → Type 0
 KeepsUse p (Local at n) f g = IsUsable p n f × IsAtLeast f g
 KeepsUse p (Global n) f g = IsAtLeast f g
@@ -50,7 +50,7 @@ abbrev mutual
   KeepsPlacement p AsUnique f g = IsAtLeast f g
   KeepsPlacement p (ByHandle a) f g = Keeps p a f g
 
-  -- The rule for an array: each element keeps the facts that are known before the first element.
+  -- The flow rule for an array: the evaluation of an element loses none of the facts that are known before the first element.
   pub KeepsInitial : Guard → Initial → (before following : Held) → Type 0
   KeepsInitial p (Plain k a) f g = Keeps p a f g
   KeepsInitial p (Fields as') f g = KeepsArguments p as' f g
@@ -63,7 +63,7 @@ abbrev mutual
   KeepsArguments p NoArguments f g = IsAtLeast f g
   KeepsArguments p (MoreArguments c as') f g = (h : Held) × KeepsConverted p c f h × KeepsArguments p as' h g
 
-  -- After `&&` and `||`, only the facts that hold without the right operand are known.
+  -- After `&&` and `||`, only those facts about locals are known that hold without the evaluation of the right operand.
   pub KeepsOperations : Guard → Operations → (before following : Held) → Type 0
   KeepsOperations p NoOperations f g = IsAtLeast f g
   KeepsOperations p (ThenCompute o a os) f g = (h : Held) × Keeps p a f h × KeepsOperations p os h g

@@ -9,8 +9,8 @@ pub data Held : Type 0 where
   -- each local for which the function is true holds a value
   Holds : (ℕ → Bool) → Held
 
--- Says that all facts of the second state hold in the first. Unreachable code satisfies all facts; reachable code is not known to be
--- unreachable.
+-- Says that all facts of the second flow state hold in the first. Unreachable code satisfies all facts; reachable code is not known
+-- to be unreachable.
 abbrev pub IsAtLeast : Held → Held → Type 0
 IsAtLeast Never g = Unit {0}
 IsAtLeast (Holds f) Never = ⊥
@@ -29,7 +29,7 @@ abbrev pub and_held : Option ℕ → Held → Held
 and_held None f = f
 and_held (Some n) f = with_held true f n
 
--- The guard of a tree, which restricts how the tree may use locals.
+-- The guard of a tree: the sets of locals that the tree must not empty, must not use, or may only peek at.
 pub record Guard : Type 0 where
   -- The locals on which an enclosing `catch` relies to hold their values: the code must not empty them.
   pub relied : ℕ → Bool
@@ -42,7 +42,7 @@ pub record Guard : Type 0 where
 abbrev pub nowhere : ℕ → Bool
 nowhere n = false
 
--- the guard at the start of a function
+-- the guard at the start of a function, which restricts the use of no local
 abbrev pub no_guard : Guard
 no_guard = record { relied = nowhere; locked = nowhere; peeked = nowhere }
 
@@ -79,13 +79,13 @@ IsSpared p n (Holds f) = p.relied n ≡ false
 
 -- ---- catches
 
--- Says that the clauses of a `try` may rely on the locals r. They include the locals on which an enclosing `catch` relies, and each of
--- them holds a value at the start of the `try`.
+-- Says that the catch clauses of a `try` may rely on the values of the locals r. They include the locals on which an enclosing `catch`
+-- relies, and each of them holds a value at the start of the `try`.
 abbrev pub IsReliable : Guard → (ℕ → Bool) → Held → Type 0
 IsReliable p r Never = Unit {0}
 IsReliable p r (Holds f) = ((n : ℕ) → p.relied n ≡ true → r n ≡ true) × ((n : ℕ) → r n ≡ true → f n ≡ true)
 
--- The facts at the start of a catch clause, given the facts at the start of its `try`.
+-- The flow facts about locals at the start of a catch clause, given the flow facts at the start of its `try`.
 abbrev pub at_catch : (ℕ → Bool) → Held → Held
 at_catch r Never = Never
 at_catch r (Holds f) = Holds r

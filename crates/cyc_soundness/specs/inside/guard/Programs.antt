@@ -5,7 +5,7 @@ use Rattle.cyc_types.specs.TypedTrees.{Function, Program}
 use Rattle.cyc_soundness.specs.inside.guard.Held.{Held, Never, Holds, IsAtLeast, no_guard}
 use Rattle.cyc_soundness.specs.inside.guard.Statements.{KeepsItems}
 
--- The facts at the start of a function: its parameters hold values.
+-- The flow facts about locals at the start of a function: its parameters hold values.
 abbrev pub held_at_start : Function → Held
 held_at_start h = Holds (λ n. nat_lt n (length h.parameters))
 

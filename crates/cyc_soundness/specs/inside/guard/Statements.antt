@@ -6,7 +6,7 @@ use Rattle.cyc_types.specs.flow.Statements.{peeked_side}
 use Rattle.cyc_soundness.specs.inside.guard.Held.{Held, IsAtLeast, updated, with_held, and_held, Guard, peeking, relying, IsSeen, IsUsable, IsSpared, IsReliable, at_catch}
 use Rattle.cyc_soundness.specs.inside.guard.Expressions.{Keeps, KeepsPlace, KeepsConverted}
 
--- An enclosing loop: the facts at its head and after it.
+-- An enclosing loop: the flow facts about locals at the loop's head and after the loop.
 pub record Exits : Type 0 where
   pub head : Held
   pub following : Held
@@ -21,7 +21,7 @@ abbrev pub KeepsThrown : Guard → Option Expression → (before following : Hel
 KeepsThrown p None f g = IsAtLeast f g
 KeepsThrown p (Some a) f g = Keeps p a f g
 
--- The rule for the evaluation of the left or right operand of a swap.
+-- The flow rule for the evaluation of the left or right operand of a swap.
 abbrev pub KeepsSide : Guard → Side → (before following : Held) → Type 0
 KeepsSide p (VariableSide l t) f g = IsAtLeast f g
 KeepsSide p (CellSide d) f g = KeepsPlace p d f g
@@ -59,7 +59,7 @@ and_lent (OpenRegion r n at k) w = updated w k true
 and_lent (DeclareAlias r n t at m) w = updated w m true
 and_lent (DeclareKey r n) w = w
 
--- The guard for the declarations and statements of a block that follow item j.
+-- The guard for the declarations and statements of a block that follow the declaration or statement j.
 abbrev pub following_item : Item → Guard → Guard
 following_item j p = record p { locked = and_lent j p.locked }
 
@@ -93,7 +93,7 @@ abbrev mutual
   KeepsItem p x (DeclareAlias r n t at m) f g = KeepsLoan p n m f g
   KeepsItem p x (DeclareKey r n) f g = IsAtLeast (with_held true f n) g
 
-  -- The rule for the catch clauses of a `try`, each of which begins with this state or a weaker one.
+  -- The flow rule for the catch clauses of a `try`, each of which begins with this flow state or a weaker one.
   pub KeepsClauses : Guard → Option Exits → Clauses → (start following : Held) → Type 0
   KeepsClauses p x NoClauses c g = Unit {0}
   KeepsClauses p x (Default r js) c g = KeepsItems p x js c g

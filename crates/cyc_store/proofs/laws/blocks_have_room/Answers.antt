@@ -1,4 +1,5 @@
--- This file proves the law that blocks have the requested size.
+-- This file proves the law about the sizes of blocks: a unique block has the size of its class, and
+-- any other block exactly the requested size.
 use Rattle.std.proofs.Common.{◌^◌, refl}
 use Rattle.cyc_words.specs.Demand.{class_of}
 use Rattle.cyc_words.proofs.Numbers.{when_equal}

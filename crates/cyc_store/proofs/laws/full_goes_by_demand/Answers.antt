@@ -1,4 +1,4 @@
--- This file proves the law that a call is refused as full exactly if it would need more pages than the store has.
+-- This file proves the law that a call is refused for lack of pages exactly if it would need more pages than the store has.
 use Rattle.cyc_store.proofs.ServiceLemmas.{full-past, fits, demand-served}
 use Rattle.cyc_store.proofs.laws.full_goes_by_demand.Goals as goal
 

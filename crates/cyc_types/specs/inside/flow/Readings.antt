@@ -50,7 +50,7 @@ module _ (q : List ℕ) where
       → Derives (rule_operations q (ThenTest o a os) f) h ≡ ((g : State) × Derives (rule q a f) g × Derives (rule_operations q os (meet f g)) h)
   tested o a os f h = refl
 
-  -- evaluating the elements of an array must leave no local emptier, because the array may have no element
+  -- evaluating the elements of an array must leave each local at least as full as before, because the array may have no element
   elements : (p : Place) (l : ℕ) (n : Expression) (k : Kind) (a : Expression) (f g : State)
       → Derives (rule_initial q (Array p l n k a) f) g
       ≡ ((head : State) × Derives (rule q n f) head × ((h : State) × Derives (rule q a head) h × (((is_at_least h head ≡ true) × Unit {0}) × (g ≡ head))))
@@ -71,8 +71,8 @@ module _ (c : Around) where
       × ((l : Known) × Derives (rule_statement c t (record { now = g; breaks = k.breaks })) l × (Unit {0} × (m ≡ record { now = meet k.now l.now; breaks = l.breaks })))))
   branches a s t f b m = refl
 
-  -- At the end of a loop's body, no local is emptier than at the loop's head. The state after a loop is the meet of the state after its
-  -- condition and the states at its breaks.
+  -- At the end of a loop's body, each local is at least as full (free, borrowed or perhaps empty) as at the loop's head. The state
+  -- after a loop is the meet of the state after its condition and the states at its breaks.
   loops : (p : Place) (a : Expression) (s : Statement) (f b : State) (m : Known)
       → Derives (rule_statement c (While p a s) (record { now = f; breaks = b })) m
       ≡ ((g : State) × Derives (rule [] a f) g

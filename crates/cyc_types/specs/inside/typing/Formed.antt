@@ -65,7 +65,7 @@ abbrev pub AreFormedGlobals : List GlobalVariable → Type 0
 AreFormedGlobals [] = Unit {0}
 AreFormedGlobals (v ∷ vs) = AllIn (IsKnown 0) v.of_type × AreFormedGlobals vs
 
--- says that the field types of a struct mention only its region parameters and are not keys
+-- says that the field types of a struct contain no region variables except the struct's region parameters, and are not keys
 abbrev pub AreFormedFields : (parameters : ℕ) → List Ty → Type 0
 AreFormedFields n [] = Unit {0}
 AreFormedFields n (t ∷ ts) = AllIn (IsKnown n) t × (is_key t ≡ false) × AreFormedFields n ts

@@ -49,7 +49,7 @@ module _ (g : Scope) where
       × (x ≡ record { side = typed.CellSide (pointed g (place_of e) b).cell; region = region_of (value_of (type_of b)) })))
   place_typed p q e x = refl
 
-  -- `&` cannot be applied to a key, a unique pointer, or a part of a unique object
+  -- `&` cannot be applied to a key, a unique pointer, or memory inside a unique object
   address_typed : (p : Place) (e : Expression) (a : typed.Expression)
       → Derives (rule g (Prefixed p prefixes.AddressOf e)) a
       ≡ ((x : Found) × Derives (rule_place g (place_of e) e (rule g e)) x

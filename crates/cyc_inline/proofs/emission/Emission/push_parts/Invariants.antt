@@ -3,7 +3,8 @@ use Rattle.cyc_inline.specs.inside.Emission.{front_by, opened_code, opened_origi
 use Rattle.cyc_inline.specs.inside.Sites.{place_in}
 use Rattle.cyc_inline.proofs.emission.Emission.push_parts.Given as goal
 
--- Invariant: the code emitted so far, followed by the replacements of the remaining instructions, is the complete code.
+-- Invariant: the code emitted so far, followed by the replacements of the function's remaining instructions, is the
+-- code after the whole function is emitted.
 abbrev pub invariant-loop-index : goal.invariant-loop-index
 invariant-loop-index l = record {
   code : l.self.code.items

@@ -2,7 +2,7 @@ use Rattle.std.proofs.Common.{◌≡◌}
 use Rattle.cyc_store.specs.State.{lexical_count, down_to}
 use Rattle.cyc_pagestore.proofs.paged.PageStoreStore.close_to.Given as goal
 
--- Invariant: only the store's regions have changed so far, and closing the remaining regions gives the required result.
+-- Invariant: only the store's regions have changed so far, and closing the remaining regions gives the result that the contract requires.
 abbrev pub invariant-loop-self : goal.invariant-loop-self
 invariant-loop-self l = record {
   same : l.self ≡ record l.fn.self { blocks = record l.fn.self.blocks { regions = l.self.blocks.regions } };

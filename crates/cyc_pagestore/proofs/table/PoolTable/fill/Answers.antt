@@ -2,7 +2,7 @@ use Rattle.std.proofs.Common.{arith}
 use Rattle.cyc_pagestore.proofs.Calls.{fill-there, fill-keeps, fill-gives}
 use Rattle.cyc_pagestore.proofs.table.PoolTable.fill.Goals as goal
 
--- The multiplication does not overflow, because the page number is below 65,536.
+-- The product of the page number and the words of a page does not overflow, because the page number is below 65,536.
 pub overflow_mul-page : goal.overflow_mul-page
 overflow_mul-page c =
     let f = c.self.inside in let few = c.self.invariant.whole.few in

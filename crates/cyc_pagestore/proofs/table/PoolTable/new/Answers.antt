@@ -14,7 +14,7 @@ take_first-requires-clause-first c = subst (λ (p : PoolState). IsFree p.free 0)
 pub take_first-requires-clause-alone : goal.take_first-requires-clause-alone
 take_first-requires-clause-alone c = subst AreAlone (sym c.in_ok-pool.ensures) (first-alone c.args.pages c.requires.least c.requires.most)
 
--- The state of the pool after its first page is taken, given the states after each of the calls.
+-- The state of the pool after its first page is taken and each field of that page is written, given the state after each of these calls.
 pool-is : (pool taken owned filled last : PoolState) (n : ℕ) → pool ≡ new_pool n → taken ≡ record pool { free = set pool.free 0 false; chains = set pool.chains 0 (0 ∷ []) }
     → owned ≡ record taken { owners = set taken.owners 0 0 } → filled ≡ record owned { fills = set owned.fills 0 0 } → last ≡ record filled { serials = set filled.serials 0 1 }
     → last ≡ record (new_pool n) {
@@ -31,7 +31,7 @@ pool-is pool taken owned filled last n first second third fourth fifth =
     (third ∙ ap (λ (p : PoolState). record p { owners = set p.owners 0 0 })
     (second ∙ ap (λ (p : PoolState). record p { free = set p.free 0 false; chains = set p.chains 0 (0 ∷ []) }) first)))
 
--- The rows of the table after the steps that create the table.
+-- The rows of the page table after the steps that create the table.
 links-are : (new made taken last : Links) (n : ℕ) → new ≡ no_links → made ≡ after new (Made n) → taken ≡ after made (Taken 0) → last ≡ after taken (Began 0 Heap)
     → last ≡ after (after (after no_links (Made n)) (Taken 0)) (Began 0 Heap)
 links-are new made taken last n first second third fourth =

@@ -35,7 +35,7 @@ returns-in_err-stock-clause-answer c =
     (λ e. subst (λ (v : Stored). demand (held_of v) < v.pages) (sym c.self.view_is) (refusal.memory (ap (λ w. Err w) e)))
     (refusal.same ∙ sym (ap held_of c.self.view_is))))
 
--- The reason for which an allocation is refused, if it is refused.
+-- The reason for which the heap store refuses to allocate a block, given the result of the attempt.
 abbrev reason : Result ℕ No → No
 reason (Ok address) = No.Memory
 reason (Err why) = why
