@@ -2,7 +2,7 @@
 
 An item is (symbol, "content"), what a pointer variable leads to, or (symbol, "place"), the variable or object itself."""
 from . import c_types as t
-from .tree import Stmt, expressions, statements, walk
+from .tree import PURE_CALLS, Stmt, expressions, has_effect, statements, walk
 
 
 # The C library functions that keep a pointer passed as first argument, or store it elsewhere.
@@ -37,6 +37,17 @@ def sources(node):
     return set()
 
 
+def has_kept_part(node, whole):
+    """Whether a pointer is in a variable of the translation's own while what is assigned is evaluated: that variable names a region.
+
+    A `c ? a : b` is not where the assignment is a `whole` statement, which becomes an `if`."""
+    parts = walk(node)
+    if node.op == "cond" and whole:
+        parts = (part for branch in node.a[1:] for part in walk(branch))
+    return any(t.is_object_pointer(part.type) and (part.op in ("cond", "comma", "assign") or part.op == "lib" and part.v not in PURE_CALLS)
+               for part in parts)
+
+
 def address_sources(place):
     if place.op in ("var", "compound"):
         return {(place.v, "place")} if is_local(place.v) else set()
@@ -56,6 +67,8 @@ class Flows:
         self.stored = set()
         self.program = program
         self.into = {}
+        self.kept = {}
+        self.kept_inside = set()
 
     def run(self, all_heap=False):
         for function in self.program.functions:
@@ -97,10 +110,14 @@ class Flows:
                     work.append(source)
 
     def settle(self, symbol):
-        """A parameter that gets what lives shorter becomes a local; a variable whose address is kept is declared for the function."""
+        """A parameter that gets what lives shorter, or a value by way of a variable of the translation's own, becomes a local.
+
+        A variable whose address is kept is declared for the function."""
         if symbol.scope == "parameter" and not symbol.heap:
-            symbol.shadow = any(s != (symbol, "content") and s not in self.heap for s in self.into.get((symbol, "content"), ()))
-        if (symbol, "place") in self.stored and not t.is_aggregate(symbol.type):
+            others = self.into.get((symbol, "content"), set()) - {(symbol, "content")}
+            symbol.shadow = any(s not in self.heap for s in others | self.kept.get(symbol, set()))
+        kept = (symbol, "place") in self.stored or (symbol, "place") in self.kept_inside and not symbol.cell
+        if kept and not t.is_aggregate(symbol.type):
             symbol.hoisted = symbol.scope == "local"
 
     # Gathering
@@ -112,13 +129,15 @@ class Flows:
         if t.is_object_pointer(node.type):
             self.heap.update(sources(node))
 
-    def stores(self, symbol, node):
-        """A pointer is assigned to a variable."""
+    def stores(self, symbol, node, whole):
+        """A pointer is assigned to a variable, in a whole statement or inside an expression."""
         found = sources(node)
         self.stored.update(found)
         if is_local(symbol):
             self.flow(found, (symbol, "content"))
             self.into.setdefault((symbol, "content"), set()).update(found)
+            if has_kept_part(node, whole):
+                self.kept.setdefault(symbol, set()).update(found)
         else:
             self.heap.update(found)
 
@@ -130,21 +149,26 @@ class Flows:
                 self.sink(stmt.e)
         for expression in expressions(function.body):
             for node in walk(expression):
-                self.node(node)
+                self.node(node, node is expression)
 
     def declaration(self, stmt: Stmt):
         for path, node in stmt.inits or []:
             if not t.is_object_pointer(node.type):
                 continue
             if path == ():
-                self.stores(stmt.symbol, node)
+                self.stores(stmt.symbol, node, True)
             else:
                 self.sink(node)
 
-    def node(self, node):
+    def node(self, node, whole):
+        if node.op == "lib" and not node.v.endswith("scanf"):
+            for arg in node.a:
+                self.kept_inside.update(sources(arg))
+        elif t.is_object_pointer(node.type) and (node.op == "cond" or has_effect(node)):
+            self.kept_inside.update(sources(node))
         if node.op == "assign" and t.is_object_pointer(node.type):
             if node.a[0].op == "var":
-                self.stores(node.a[0].v, node.a[1])
+                self.stores(node.a[0].v, node.a[1], whole)
             else:
                 self.sink(node.a[1])
         elif node.op == "call":
