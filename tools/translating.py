@@ -171,13 +171,14 @@ def numbered(places, count):
 def translated(source, name, program, is_own):
     """The object that is printed."""
     import c_front
+    from c_front.command import asker
     found = {"text": None, "files": [], "functions": [], "places": []}
     strange = None if is_own else strange_file(source)
     if strange:
         line, what = strange
         hint = "write what the header declares: only headers of C are there"
         return {**found, "findings": [finding("refusal", True, source, line, 1, f"this names another file: {what[:100]}", hint)]}
-    text, places, refusals, warnings = c_front.translate(source, name, arguments=[name])
+    text, places, refusals, warnings = c_front.translate(source, name, arguments=[name], ask=asker(program))
     found["findings"] = [in_file(it, "refusal", number == 0, source, name) for number, it in enumerate(refusals)]
     found["findings"] += [in_file(it, "warning", False, source, name) for it in warnings]
     if text is not None:

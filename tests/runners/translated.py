@@ -20,7 +20,7 @@ import time
 ROOT = os.path.dirname(os.path.dirname(os.path.dirname(os.path.abspath(__file__))))
 sys.path.insert(0, os.path.join(ROOT, "tools"))
 from c_front import translate  # noqa: E402
-from c_front.command import refused_in_c  # noqa: E402
+from c_front.command import asker, refused_in_c  # noqa: E402
 from c_front.places import Places  # noqa: E402
 
 FOLDER = os.path.join(ROOT, "tests", "c")
@@ -126,6 +126,27 @@ class Tests:
         told = refused_in_c([f"x.cyc:{line}:3: no such thing", f"fault 22 at {line}:3"], found.text, found.places)
         return "" if told == ["case.c:4: no such thing", "fault 22 at 4:1"] else f"it is told so: {told}"
 
+    @staticmethod
+    def mended():
+        """The objects of a function whose regions are refused live in the heap, and no others; then all do."""
+        body = "{\n  int a[2] = {1, 2};\n  return a[0];\n}\n"
+        source = f"int f(void)\n{body}int g(void)\n{body}int main(void) {{ return f() + g(); }}\n"
+        refused = []
+
+        def ask(text):
+            starts = [text.index(f"int {name}(void) {{") for name in "fg"]
+            refused.append(["rnew" not in text[at:text.index("}\n", at)] for at in starts])
+            return text.count("\n", 0, starts[0]) + 2
+        found = translate(source, "case.c", ask=ask)
+        good = refused == [[False, False], [True, False]] and "rnew" not in found.text
+        return "" if good else f"in the heap are {refused}, and then:\n{found.text}"
+
+    def is_asked(self):
+        """The checker is asked for regions alone."""
+        text = "int main() {\n  int *`H p = NULL;\n  {\n    int x = 1;\n    p = &x;\n  }\n  return 0;\n}\n"
+        told = [asker(self.program)(it) for it in (text, "int main() {\n  return y;\n}\n", "int main() {\n  return 0;\n}\n")]
+        return "" if told == [5, None, None] else f"it says {told}"
+
     def is_fast(self):
         """A program of a thousand lines takes at most one second of a processor."""
         body = "{\n  int i, s = 0;\n  for (i = 0; i < a; i++)\n    s += i * %d;\n  return s;\n}\n\n"
@@ -175,6 +196,8 @@ def main():
                 tests.note(f"layout of {name}.c", tests.is_laid_out(os.path.join(FOLDER, name + ".c"), folder))
     if not options.only:
         tests.note("a refusal in a helper", tests.refusal_in_helper())
+        tests.note("what is refused for its regions", tests.mended())
+        tests.note("the checker", tests.is_asked())
         tests.note("a thousand lines", tests.is_fast())
     left_out = "" if narrow else f"; left out: {', '.join(NARROW)}, for which Debian's gcc-multilib is needed"
     print(f"{tests.passed} passed, {tests.failed} failed{left_out}")

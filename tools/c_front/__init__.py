@@ -83,20 +83,24 @@ def last_lines(text, program, name):
 
 
 class Options(NamedTuple):
-    """How a program is translated; `left_out` are functions that main does not lead to, and that are refused."""
-    heap: bool = False
+    """How a program is translated; `left_out` are functions that main does not lead to, and that are refused.
+
+    `heap` names the functions whose objects all live in the heap, and is True for all functions."""
+    heap: bool | frozenset = frozenset()
     zero: bool = False
     arguments: tuple = ("program",)
     partial: bool = False
     left_out: frozenset = frozenset()
 
 
-def translate(text, name, *, heap=False, zero=False, arguments=("program",), folders=(), defines=(), partial=False, after=(), left_out=()):
+def translate(text, name, *, heap=False, zero=False, arguments=("program",), folders=(), defines=(), partial=False, after=(), left_out=(),
+              ask=None):
     """The translation of a C text that is called `name`; headers lie in `folders`, and in `after` those that nothing else has.
 
-    With `partial` each function that is refused, and each that `left_out` names, is one that throws."""
+    With `partial` each function that is refused, and each that `left_out` names, is one that throws. `ask` says of a translation the
+    line whose regions the checker refuses, or None: then the objects of the function there live in the heap, or those of all."""
     sys.setrecursionlimit(max(sys.getrecursionlimit(), 20000))
-    options = Options(heap, zero, tuple(arguments), partial, frozenset(left_out))
+    options = Options(heap or frozenset(), zero, tuple(arguments), partial, frozenset(left_out))
     try:
         clean = preprocess(text, name, folders, defines, after)
         ast = parse(text, clean, name)
@@ -108,9 +112,19 @@ def translate(text, name, *, heap=False, zero=False, arguments=("program",), fol
         except (RecursionError, AttributeError, KeyError, IndexError, TypeError) as error:
             refusal = Refusal(f"the translator fails: {type(error).__name__}: {error}"[:200], Place(name, 1, 1), "tell who keeps it")
             return Translation(None, None, [refusal], [])
-        if not idle:
+        heap = options.heap if idle or ask is None else more_in_heap(found, options.heap, ask)
+        if not idle and heap == options.heap:
             return found
-        options = options._replace(left_out=options.left_out | idle)
+        options = options._replace(left_out=options.left_out | idle, heap=heap)
+
+
+def more_in_heap(found, heap, ask):
+    """The functions whose objects all live in the heap, with the one of the line whose regions the checker refuses."""
+    line = None if found.text is None or heap is True else ask(found.text)
+    if line is None:
+        return heap
+    place = found.places.at(line)
+    return True if place is None or not place[2] or place[2] in heap else heap | {place[2]}
 
 
 def attempt(ast, text, name, options):

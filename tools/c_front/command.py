@@ -1,5 +1,6 @@
 """The command line of cyclone-c."""
 import argparse
+import json
 import os
 import re
 import shutil
@@ -14,6 +15,8 @@ STATUS = {"done": 0, "refused": 2, "usage": 9}
 FAULT = re.compile(r"fault (\d+) at (\d+):\d+")
 PLACED = re.compile(r"(?P<file>[^\n:]*\.cyc):(?P<line>\d+):(?P<column>\d+): (?P<rest>.*)")
 
+# The codes of the refusals for regions: one that is not live, one that does not live as long as another, and one of a callee.
+REGIONS = (24, 25, 26)
 BY_NAME = {"Null_Exception": "a null pointer is followed", "Array_bounds": "an access outside of its array",
            "Array_size": "an array of more than 1,000 words, or fewer than 0 elements", "Div_zero": "a division by 0"}
 
@@ -79,13 +82,25 @@ def translated(options):
     except OSError as error:
         raise Failure([f"cyclone-c: {options.source} cannot be read: {error.strerror}", "read fault"], 8) from error
     found = translate(text, options.source, heap=options.heap, zero=options.zero, folders=options.folders, defines=options.defines,
-                      arguments=[options.source] + options.arguments)
+                      arguments=[options.source] + options.arguments, ask=asker(program_of(options)))
     if not options.quiet:
         for warning in found.warnings:
             say(told(warning, "warning: "))
     if found.refusals:
         raise Failure([line for refusal in found.refusals[:20] for line in told(refusal)] + ["refused"], STATUS["refused"])
     return found
+
+
+def asker(program):
+    """What `translate` asks of a translation: the line whose regions the checker refuses, or None."""
+    def ask(text):
+        try:
+            done = run([program, "check", "--json", "-"], input=text)
+        except OSError:
+            return None
+        said = [json.loads(line) for line in done.stdout.splitlines() if line.startswith("{")]
+        return next((one["line"] for one in said if one.get("first") and one["code"] in REGIONS), None)
+    return ask
 
 
 def laid_out(found, program):

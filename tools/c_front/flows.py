@@ -70,12 +70,13 @@ class Flows:
         self.kept = {}
         self.kept_inside = set()
 
-    def run(self, all_heap=False):
+    def run(self, in_heap=frozenset()):
+        """Decides for each object; of the functions that `in_heap` names, of all where it is True, all objects live in the heap."""
         for function in self.program.functions:
             if function.body is not None:
                 self.function(function)
         for symbol in self.program.symbols:
-            self.forced(symbol, all_heap)
+            self.forced(symbol, in_heap is True or symbol.owner is not None and symbol.owner.name in in_heap)
         self.spread()
         for symbol, what in self.heap:
             if what == "content" or t.is_aggregate(symbol.type):
@@ -94,9 +95,9 @@ class Flows:
             handles = isinstance(target, t.Array) or isinstance(target, t.Struct) and symbol.type.fat
             moved = handles and (symbol.scope == "local" or symbol.assigned)
             called = symbol.scope == "parameter" and symbol.owner.address
-            if symbol.address or moved or called:
+            if symbol.address or moved or called or all_heap:
                 self.heap.add((symbol, "content"))
-        if all_heap and t.is_aggregate(symbol.type):
+        if all_heap and (symbol.address or t.is_aggregate(symbol.type)):
             self.heap.add((symbol, "place"))
 
     def spread(self):
