@@ -46,7 +46,7 @@ CASES = os.path.join(suite.TESTS, "wrong")
 CRATES = os.path.join(suite.ROOT, "crates")
 RECORD = os.path.join(CASES, "refused.sums")
 PARTS = ("src", "specs", "proofs")
-# The names of the files that contain the proof of a function's contract.
+# The files of a function's proof.
 PROOF = ("Proof.antt", "Answers.antt", "Invariants.antt")
 MEMORY = 3 * 10 ** 9  # the bytes of one run of the prover, with a third to spare
 
@@ -87,8 +87,7 @@ class Case:
 
     def __init__(self, crate, name):
         self.crate, self.name, self.path, self.tests = crate, name, None, None
-        # for a test case: its edits, the functions, laws or files whose proofs must be refused, and the rejected programs that
-        # the edited code or definition would accept
+        # its edits, the functions, laws or files whose proofs must be refused, and the programs that it is said to let through
         self.edits, self.refused, self.lets = [], [], []
 
     def read(self, word, text):
@@ -145,14 +144,12 @@ OWNER = re.compile(r"(?:pub(?:\(\w+\))? |unsafe )*(?:trait (?P<trait>\w+)|impl (
 TYPE = re.compile(r"^(?:pub(?:\(\w+\))? )?(?:struct|enum|union) (\w+)", re.MULTILINE)
 PARAMETERS = re.compile(r"impl(?:<.*?>)? [\w:]+<(.*)> for ")
 CYCLE = re.compile(r" *#\[cycle\((\w+)\)\]")
-# The pattern of the attribute line above a test declaration, and the pattern of a module that
-# contains only tests.
+# The line above an item of tests, and a module of theirs.
 OF_TESTS = re.compile(r" *#\[(?:cfg\()?test\b")
 TEST_MODULE = re.compile(r"^#\[cfg\(test\)\]\nmod (\w+);", re.MULTILINE)
 
-# A function: its path in the crate, the folder of its proof, and its file. Further the line numbers of the first line of its body and of
-# the line that closes it, or None if the body is empty. Further the line that names its cycle of recursive calls, or None. Last a flag that
-# is true if the path is certain, and one that is true if the function has a contract.
+# A function: its path in the crate, the folder of its proof, its file, the numbers of the first line of its body and of the one that closes
+# it, or None if nothing is in it, of the line that names its cycle of calls, or None, whether the path is sure, and whether it promises.
 Function = collections.namedtuple("Function", "path proof file first last cycle is_sure promises")
 
 
@@ -305,14 +302,13 @@ def rounds_of(cases, functions):
 ERROR = re.compile(r"(\S+?\.(?:antt|rt)):\d+:\d+: error(\[[\w-]+\])?: (.*)")
 GOAL = re.compile(r"note: \S+\.rt:\d+:\d+: it is not proved that ")
 COUNTS = re.compile(r"only=\d+ proved=\d+|logic=.*")
-# The pattern of a message about a function that is itself proved but depends on an unproved one: a
-# function that it calls, or that its cycle of recursive calls calls.
+# A function whose own proof holds, where one that it calls, or that its cycle of calls does, has none.
 RESTS_ON = r"(in `[^`]*`, of this cycle of calls: )?it (calls|passes the block) [^;]*, which (is|are) not proved"
 RESTS = re.compile(f"no proof: {RESTS_ON}(; {RESTS_ON})*")
 IS_FALSE = "the facts known there allow values at which this goal is false"
-# The pattern of errors that report only that another declaration was refused.
+# Errors that say no more than that another declaration was refused.
 FOLLOWS = re.compile(r"is not admitted|not admitted, (was|were) not checked|depends? on .* (was|were) not checked")
-# The pattern of errors in a text that names something undeclared or is syntactically invalid.
+# Errors of a text that names a thing which is not there, or is no text of the language.
 UNREAD = re.compile(r"is not in scope|has no field|has no `|is no name|operand is missing|expected the end|cannot continue")
 
 Error = collections.namedtuple("Error", "path code text")
@@ -324,7 +320,7 @@ class Answer:
 
     def __init__(self, status, said, crate, room):
         self.status, self.crate, self.lines, self.errors = status, crate, said.rstrip("\n").split("\n"), []
-        # the line of each function, and the proof goals that are written in the lines above it
+        # the line of each function, and the goals that are noted above it
         self.functions, goals = {}, []
         for line in self.lines:
             error = ERROR.match(line)
@@ -391,7 +387,7 @@ def judged_of(case, function, turned, answer, written):
 
 # ---- runs of the prover
 
-# The prover processes that are running; they are ended when this script ends.
+# The running provers, which end with this script.
 RUNNING = set()
 
 
@@ -403,7 +399,7 @@ class Group:
         self.order = in_order(crate, self.graph)
         self.written = [it for it in self.order if it == crate or others & set(in_order(it, self.graph))]
         self.functions = functions_of(crate)
-        # a folder with the proofs that the first run of the prover made, for use in later runs
+        # a folder with what the first run proved
         self.seed = None
 
     def library(self, crate):
@@ -429,8 +425,7 @@ class Group:
             for name in PROOF:
                 if os.path.exists(os.path.join(above, it.proof, name)):
                     os.remove(os.path.join(above, it.proof, name))
-            # A function whose body is cut belongs to no cycle of recursive calls. Without a proof file for it, the
-            # prover would search for a proof.
+            # A function whose body is cut is in no cycle of calls. Without a file the prover would look for a proof.
             there = os.path.join(above, os.path.dirname(it.proof), it.path.split("::")[-1])
             os.makedirs(there, exist_ok=True)
             write(os.path.join(there, PROOF[0]), "-- It is left out.\n")
@@ -450,8 +445,7 @@ class Group:
                 words += ["-L", f"dependency={os.path.dirname(self.library(it))}"]
         words += ["--antt-project", f"{self.kit}/rattle/logic/antt-project.json", "--logic-built", f"{self.kit}/logic_built"]
         words += ["--incremental", kept, "--jobs", "1"]
-        # If a file of proofs is to be checked, the prover is run on the whole crate, because only
-        # then it reads such files.
+        # Files of proofs are read where the whole crate is asked for.
         return words if any(map(is_file, functions)) else words + [word for it in functions for word in ("--only", it)]
 
     def ask(self, cases, functions, kept):
@@ -554,7 +548,7 @@ class Run:
 
 NOTE = "# For each crate the sum of all that its wrong bodies rest on, and the commit at which all were refused. `make wrong` writes it.\n"
 LINE = re.compile(r"(\w+) ([0-9a-f]{64}) ([0-9a-f]{40})")
-# The pattern of an import declaration: the module, and the list of names imported from it.
+# An import of names: its module and these.
 IMPORT = re.compile(r"((?:pub |ghost )*use [^\s;{]+)\.\{([^}]*)\};?")
 
 
