@@ -138,8 +138,8 @@ LINUX = [addiu(4, 0, 7), addiu(2, 0, 4001), SYSCALL]
 def executable(words):
     """Returns a file with this text, and a page of data at the data range."""
     text = b"".join(struct.pack(">I", word) for word in words)
-    # this ELF header satisfies Linux's requirements on offsets and alignment; the machine's image
-    # reader accepts it too
+    # this ELF header satisfies Linux's requirements on offsets and alignment; the image reader of
+    # the MIPS machine accepts this header
     header = bytes.fromhex("7f454c46010201") + bytes(9)
     header += struct.pack(">HHIIIIIHHHHHH", 2, 8, 1, TEXT, 52, 0, 0x1000, 52, 32, 2, 0, 0, 0)
     segments = struct.pack(">8I", 1, 0x1000, TEXT, TEXT, len(text), len(text), 5, 0x1000)

@@ -50,7 +50,7 @@ GROUPS = {
     APART: "accounts cache calendar huffman replaced slices unions",
 }
 # Restricts gcc to the machine's instructions: no traps on division by 0, no branch-likely instructions (which may skip their
-# delay slot), no further registers.
+# delay slot), no registers that the machine lacks.
 FLAGS = "-w -fwrapv -mips2 -mabi=32 -msoft-float -mno-abicalls -fno-pic -G0 -mno-check-zero-division -mno-branch-likely".split()
 FLAGS += "-ffreestanding -fno-builtin -nostdlib -static -Wl,--build-id=none".split()
 LINKED = ["-x", "none", os.path.join(PAIRS, "start.s"), "-Wl,-T," + os.path.join(PAIRS, "layout.ld")]

@@ -25,8 +25,8 @@ DEFAULT = 1_000_000_000
 TIMES = 5
 COPIES = 32
 SPENT = 7
-# The factor by which step budgets are divided when the instructions are counted. Counting takes longer and need
-# not be repeated.
+# The factor by which the step budget of a run is divided when the run's instructions are counted. A run with
+# counted instructions takes longer than a run without, and it need not be repeated.
 SMALLER = 100
 COUNTER = ["valgrind", "--tool=cachegrind", "--cache-sim=no", f"--cachegrind-out-file={os.devnull}"]
 COUNTED = re.compile(rb"I +refs: +([\d,]+)")

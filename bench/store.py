@@ -29,7 +29,8 @@ HERE = os.path.dirname(os.path.abspath(__file__))
 STORES = ("plain", "pages")
 IN_USE = (1, 1_000, 60_000)
 PAGES, MOST = 65_536, 1_000_000_000_000
-# The large and the small number of loop iterations, and the factor that reduces both when instructions are counted.
+# The large and the small number of loop iterations, and the factor by which both numbers are divided when
+# instructions are counted.
 MANY, FEW, FEWER = 2_000_000, 100_000, 100
 RUNS = 5
 IN_REGION = 64

@@ -1,7 +1,7 @@
 #!/bin/sh
-# Tests a change in a few minutes, without proofs. The script builds the program unproved at the given path, and runs the suites of
-# tests/suites.txt marked `quick` on it. As many suites run in parallel as there are processors. The script ends early if a command that
-# the suites need is missing. The last line is `N passed, M failed` over all suites.
+# Tests changed sources in a few minutes, without proofs. The script builds the program unproved at the given path, and runs the suites
+# of tests/suites.txt marked `quick` on it. As many suites run in parallel as there are processors. The script ends early if a command
+# that the suites need is missing. The last line is `N passed, M failed` over all suites.
 #
 #     sh tests/quick.sh PROGRAM
 set -u

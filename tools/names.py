@@ -25,8 +25,8 @@ KEYWORDS = set(
 BASES = ("int", "char", "struct", "region_t", "uregion_key_t")
 MARKS = ("*", "@", "?")
 OPERATORS = set("|| && | ^ & == != < <= > >= << >> + - * / %".split())
-# A region that no type can name, such as the region of a block without a label or an unknown region; and the heap region.
-# Regions chosen by a caller are represented by numbers.
+# `UNKNOWN` stands for a region that no type can name, such as the region of a block without a label or an unknown region.
+# `HEAP` stands for the heap region. Regions chosen by a caller are represented by numbers.
 UNKNOWN, HEAP = "`0", "`H"
 # The maximum nesting of brackets and statements that this reader accepts; the language allows 200.
 DEEPEST = 210

@@ -34,8 +34,8 @@ GAP = r"(?:[^\S\n]|\0|/\*.*?\*/)*"
 INCLUDE = re.compile(rf"(?:#|%:|\?\?=){GAP}(?:include_next|include|import)\b{GAP}(?:<(?P<one>[^>\n]*)>|\"(?P<other>[^\"\n]*)\")?", re.S)
 # Names, besides `#include`, by which a C text can make cpp tell whether a file exists.
 PROBE = re.compile(r"__has_include\w*|_Pragma\b|\bdependency\b|\bpch_preprocess\b")
-# The pattern of a compiler message about the translation, with the file name that either tool gives
-# the translation.
+# The pattern of the start of a compiler message about the translation: the translation's file name,
+# which is `source.cyc` or a path of the form `/proc/self/fd/N`.
 COMPILED = re.compile(r"^(?:source\.cyc|/proc/self/fd/\d+):(?=\d+:\d+: )")
 IN_C = re.compile(r"(?P<file>[^\n]*?):(?P<line>\d+): (?P<text>.*)")
 WORD = re.compile(r"\d[\w.]*|\w+|\S", re.A)

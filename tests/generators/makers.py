@@ -53,8 +53,8 @@ def before(way):
     return {name: type(f"{way.__name__}{maker.__name__}", (way, maker), {}) for name, maker in PROFILES.items()}
 
 
-# The makers of random programs without recursion, whose calls therefore have a bound, and those
-# without loops, whose steps have a bound too.
+# The makers of random programs without recursion, whose calls therefore have a bound; and the
+# makers of random programs without loops, whose number of steps has a bound.
 IN_ROWS, WITHOUT_LOOPS = before(InRows), before(WithoutLoops)
 # The program makers whose regions mostly close before a loop's next iteration.
 IN_TURNS = {"turns": type("InRowsTurnMaker", (InRows, TurnMaker), {})}

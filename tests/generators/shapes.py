@@ -36,12 +36,12 @@ def text_of(count):
 
 # ---- shapes
 
-# The last lines that `check` and `compile` print for an accepted text and for a frame that is too
-# large.
+# The last lines that `check` and `compile` print: for an accepted text, and for a text that needs a
+# stack frame that is too large.
 DONE, FRAME = "done", "fault 51"
-# The maximum cost of a text for each token or byte, relative to the usual text. The first limit is for an accepted text, the second for a
-# rejected text, whose faults need a further pass. A shape of texts in which every token causes more of the same work sets its own
-# maximum, as docs/FIGURES.md explains.
+# The maximum cost of a text for each token or byte, relative to the cost of the usual text (an ordinary program). The first limit is for
+# an accepted text, the second for a rejected text, whose faults need a further pass. A shape of texts in which every token causes more
+# work of one sort sets its own maximum, as docs/FIGURES.md explains.
 MOST, MOST_REFUSED, MOST_ONE_KEY = 1.5, 10.0, 2.1
 
 
@@ -369,7 +369,8 @@ REFUSED = {
     "a token too many": Shape(IN_MAIN + "int x = 1 ; ", "x = 2 ; ", ") ;" + BEHIND, checked="fault 10"),
     "a text that is cut off": Shape(IN_MAIN + "int x = 1 ; ", "x = 2 ; ", "x = 2", checked="fault 11"),
     "a long name that is unknown": Shape("int main ( ) { ", "a", " = 1 ; return 0 ; }", checked="fault 20", by_bytes=True),
-    # a message is also printed for the first twenty faults after the first
+    # for each shape below, a message is printed for the first fault of the text and for up to
+    # twenty further faults
     "a name that is unknown in each function": Shape("", "void f# ( int x ) { x = 1 ; x = y ; } ", PROGRAM_BEHIND, checked="fault 20"),
     "an int for a pointer in each function": Shape("", "void f# ( int * p ) { p = NULL ; p = 1 ; } ", PROGRAM_BEHIND, checked="fault 22"),
     "a local that is empty in each function": Shape("", "void f# ( ) { int x ; int y = 1 ; y = x ; } ", PROGRAM_BEHIND, checked="fault 40"),

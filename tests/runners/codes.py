@@ -46,8 +46,8 @@ KINDS = ("any", "number", "marked", "name", "call", "method", "wide")
 HEAD = "| Code | What it means | Its place | Smallest text |\n|---|---|---|---|\n"
 PART = re.compile(r'"([^"]*)"(?: \* (\d+))?')
 # The prefix of a source line on a documentation page about a code; the line is in the field
-# `breaks` (the rejected text) or `mended` (the corrected text). Also the pattern of a line that is
-# repeated several times.
+# `breaks` (the rejected text) or `mended` (the corrected text). `REPEATED` is the pattern of a line
+# that ends with `(N times)` and stands for N copies.
 LINE = "  | "
 REPEATED = re.compile(r"(.*\S) +\((\d+) times\)")
 MANY = "A line below that ends with (N times) stands N times, with the number of the copy in place of #."

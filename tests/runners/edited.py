@@ -439,8 +439,8 @@ BEGIN, END = request(1, "initialize", capabilities={}), (request(99, "shutdown")
 OPEN = note("textDocument/didOpen", textDocument={"uri": "file:///a", "languageId": "cyclone", "version": 1,
     "text": "int main() { return 0; }"})
 AT = {"textDocument": {"uri": "file:///a"}, "position": {"line": 0, "character": 5}}
-# Test cases of the protocol: the messages sent, the error numbers in the answers, and the exit status
-# of the server.
+# Test cases of the language server's protocol: the messages sent to the server, the error numbers in
+# its answers, and its exit status.
 PROTOCOL = (
     ("a beginning and an end", (BEGIN, *END), [], 0), ("an end without shutdown", (BEGIN, note("exit")), [], 1), ("nothing", (), [], 1),
     ("no end", (BEGIN,), [], 1),

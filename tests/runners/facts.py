@@ -20,7 +20,7 @@ import stores
 import wrong
 
 FOLDERS = (("src", ".rt"), ("specs", ".antt"), ("proofs", ".antt"))
-# The number words that sentences use for numbers.
+# The English words that sentences use for the numbers from 0 to 16.
 WORDS = "no one two three four five six seven eight nine ten eleven twelve thirteen fourteen fifteen sixteen".split()
 # The fields in the first lines of the document about a crate, in this order. The document about a crate
 # that has only tests or figures may lack some of these fields.

@@ -15,9 +15,9 @@ BENCH = os.path.join(suite.ROOT, "bench")
 sys.path.insert(0, BENCH)
 import pairs as bench_pairs
 
-# Three samples of the processes during a gate, one second apart. The samples contain two checks of one crate in parallel, one of them with
-# a helper process, and the check of a wrong function body. The samples also contain a proof that ends, a proof whose parent has ended, and
-# an unrelated check.
+# Three samples of the running processes during a gate, taken one second apart. The samples contain two checks of one crate in parallel,
+# one of them with a helper process, and the check of a wrong function body. The samples also contain a proof that ends, a proof whose
+# parent process has ended, and a check that is no part of the gate.
 LOOKS = """\
 100 1 5 0.2 python3 /usr/local/bin/rt ci
 101 100 10 3.0 /opt/bin/rattle build --crate-name low src/lib.rt -o /x/low.rlib
@@ -138,8 +138,9 @@ for word; do case "$word" in *.c) source=$word;; *.elf) image=$word;; -fwhole-pr
 sed -n "s/^$level //p" "$source" > "$image"
 """
 
-# Stand-in programs, for equal and unequal pairs: the image in Cyclone, with -O0, with -O1, with all checks if that differs, and with all
-# checks and the whole program known if that differs too. Each line of an image ends at a `|`.
+# Stand-in programs, for pairs of programs that must be accepted as equal and pairs that must be rejected as unequal. Each pair lists the
+# image in Cyclone, with -O0, with -O1, with all checks if that differs, and with all checks and the whole program known if that differs.
+# Each line of an image ends at a `|`.
 EQUAL_PAIRS = {
     "one": ("9|returned 7|a|b|", "3|returned 7|a|b|", "1|returned 7|a|b|", "1|returned 7|a|b|", "9|returned 7|a|b|"),
     "two": ("1001|returned 0|c|", "3003|returned 0|c|", "1001|returned 0|c|"),

@@ -40,8 +40,8 @@ BEHIND = {"check": [], "compile": ["-o", "image"], "run": [], "disasm": []}
 KINDS = {"Text": shapes.TEXTS, "Image": image_shapes.IMAGES, "Loop": image_shapes.LOOPS}
 
 # `Cost` is the cost of a command on a file: instructions (None if the command did not end), peak memory in MB, and the size of the image
-# made. `Cost` also has the number of bytes and the last line on standard error. `Figures` is the cost of the files of one shape: the ratio
-# to the usual file, and the ratio to a file with half as many repeated forms.
+# made. `Cost` also has the number of bytes on standard error and the last line printed there. `Figures` is the cost of the files of one
+# shape: the ratio to the usual file, and the ratio to a file with half as many repeated forms.
 Cost = collections.namedtuple("Cost", ("instructions", "memory", "length", "said", "made"))
 Figures = collections.namedtuple("Figures", ("share", "growth", "cost"))
 

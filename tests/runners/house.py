@@ -14,7 +14,7 @@ from sources import stands_on
 LONG_FILE, LONG_IMPORT = 600, 300
 CRATES = os.path.join(suite.ROOT, "crates")
 # The pattern of a definition's name and type, at the left margin or in a module with parameters; continuation
-# lines are indented further.
+# lines are indented more than the line with the name.
 SIGNATURE = re.compile(r"^( {0,2})(pub )?([A-Za-z_][\w'-]*) : (.*(?:\n(?:\1 +\S.*|\s*))*)", re.M)
 WORD = re.compile(r"[^\W\d][\w'-]*")
 IMPORT = re.compile(r"^(?:ghost )?use (.+)$", re.M)

@@ -28,8 +28,8 @@ from with_library import whole
 
 FOLDER = os.path.join(suite.TESTS, "interactive")
 SUFFIX = ".dialog"
-# The seconds to wait for expected output, unless given otherwise, and for output that must not appear. Expected output appears at once
-# unless the processors are busy.
+# The seconds to wait: `SOON` for expected output, unless the caller gives another time, and `QUIET` for output that must not appear.
+# Expected output appears at once unless the processors are busy.
 SOON = suite.CLOCK * suite.SECONDS
 QUIET = 0.1
 # The capacity of a pipe in bytes.

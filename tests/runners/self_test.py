@@ -244,8 +244,8 @@ def are_drifts_found():
         if text.count(old) != 1 or documents.faults_of(path, text) or not documents.faults_of(path, text.replace(old, new)):
             print(f"{path}: {old!r} stands there {text.count(old)} times, or is as well as {new!r}")
             right = False
-    # The checker must find a crate that is not listed, and a definition that names no public
-    # source.
+    # The checker must report a crate that is missing in crates.txt, and a definition that names no
+    # public source.
     listed = facts.crates()
     with unittest.mock.patch.object(facts, "crates", lambda: listed[1:]), unittest.mock.patch.object(facts, "SOURCE", re.compile("System V")):
         if not facts.faults_of_crates() or not facts.faults_of_sources():

@@ -8,8 +8,8 @@ import sys
 
 import suite  # first: it makes the tools importable
 
-# Two crates, of which `top` depends on `low`; their functions return numbers. The stand-in for the prover proves a function if its
-# body is the right number.
+# Two crates, of which `top` depends on `low`; each of their functions returns a number. The stand-in for the prover proves a
+# function if its body is the number that the function's contract states.
 CRATES = {"low": ["one", "two"], "top": [f"f{it:02}" for it in range(20)]}
 FUNCTION = "/// Answers a number.\npub fn {0}() -> u32\n    ensures {{ result ≡ {0} }}\n{{\n    n_{0}\n}}\n"
 CASE = "== {0}_is_{1}\ntests: {0} is itself\nfile: src/lib.rt\nold:     n_{0}\nnew:     {1}\nrefused: {0}\n\n"

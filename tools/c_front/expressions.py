@@ -94,8 +94,9 @@ class Expressions(WideNumbers):
         if node.op == "num" and node.v == 0:
             return Node("null", type_, place=node.place)
         if node.op == "num" and t.is_tag(type_) and t.is_int(node.type):
-            # No function has an index below 0. So different numbers converted to function pointers stay
-            # different when compared, and a call through such a pointer ends the run.
+            # No function has an index below 0. A number converted to a function pointer becomes an
+            # index below 0, so different numbers stay different when compared, and a call through such
+            # a pointer ends the run.
             return Node("nofn", type_, v=-(node.v & 0x7fffffff), place=node.place)
         if not isinstance(node.type, t.Ptr):
             raise Refusal("a number as a pointer", node.place, "only 0 is a pointer: NULL")

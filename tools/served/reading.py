@@ -10,8 +10,8 @@ try:
 except ModuleNotFoundError:
     markdown = None
 
-# The documents for users who write programs; the page lists these documents first, and the others
-# of docs/ after them.
+# The documents for users who write programs; the page lists these documents first, and then the
+# other documents of the folder docs/.
 FIRST = ("LANGUAGE", "FROM_C", "CODES", "PAGE", "PLACES", "GUARANTEES")
 # The examples that the page lists first; the others follow in the order of their names.
 EXAMPLES = ("hello", "count", "wrong", "unset")

@@ -279,7 +279,7 @@ commutes c (Arithmetic op d l r) n w movable free none =
     (ap (λ (x : ℕ). arithmetic_result op x (word_in (with_word c n w) r.number)) (unread_register c n w l.number (or_left_false (l.number == n) (r.number == n) free))
     ∙ ap (arithmetic_result op (word_in c l.number)) (unread_register c n w r.number (or_right_false (l.number == n) (r.number == n) free))) (other_from_eqb d.number n none))
 
--- Returns the reason to refuse a load or a store at an address, if there is one.
+-- Returns the reason why the machine refuses a load or a store at an address, or `None` if it performs the access.
 abbrev memory_cause : Configuration → (stores : Bool) → (address : ℕ) → Option Cause
 memory_cause c stores address = let place = place_of (memory_of c) address in first_of (
     (false, causes.Unpredictable)

@@ -1,5 +1,5 @@
--- An ordinary instruction has the same effect in the labelled machine and in the MIPS machine whose
--- memory also contains the assembled text.
+-- An ordinary instruction has the same effect in the labelled machine and in the MIPS machine, whose memory additionally contains the
+-- assembled machine code.
 use Rattle.std.proofs.Common.{◌≡◌, ℕ, ◌+◌, ◌*◌, ◌%◌, ◌≤◌, List, [], ◌∷◌, length, Bool, true, false, ◌||◌, cond, nat_le, Option, None, Some, refl, sym, ap, ◌∙◌, arith, inl, inr}
 use Rattle.std.specs.Prelude.{◌⊎◌, not, is_some, slice_index_or, if◌then◌else◌}
 use Rattle.std.proofs.lemmas.Bool.{or_cases}
@@ -39,8 +39,8 @@ module _ (words : List ℕ) (inside : text_base + 4 * length words ≤ text_end)
   abbrev memory_with : machines.Memory
   memory_with = record { text = text_of words; globals = c.globals; stack = c.stack; store = c.store }
 
-  -- `Known` says that an address that the labelled machine maps is mapped to the same memory location if memory also
-  -- contains the assembled text.
+  -- `Known` says that an address has the same memory location with and without the assembled machine code in memory,
+  -- if the labelled machine maps this address.
   data Known (address : ℕ) : Type 0 where
     globals : (n : ℕ) → place_of (memory_of c) address ≡ InGlobals n → place_of memory_with address ≡ InGlobals n → Known address
     stack : (n : ℕ) → place_of (memory_of c) address ≡ InStack n → place_of memory_with address ≡ InStack n → Known address
@@ -98,7 +98,7 @@ module _ (words : List ℕ) (inside : text_base + 4 * length words ≤ text_end)
 
   -- ---- forbidden instructions
 
-  -- Returns the reason to refuse a load or a store at a memory location, if there is one.
+  -- Returns the reason why the machine refuses a load or a store at a memory location, or `None` if it performs the access.
   abbrev cause_for : machines.Memory → (misaligned stores : Bool) → Place → Option Cause
   cause_for memory misaligned stores place = first_of (
       (false, causes.Unpredictable)

@@ -41,7 +41,8 @@ position_up_to code positions number is within =
 pub position_at : (code : List Line) (positions : List ℕ) (number : ℕ) → positions ≡ position_of_each code → number < length code → get_or positions number 0 ≡ position code number
 position_at code positions number is below = position_up_to code positions number is (omega (arith, below))
 
--- All numbers in the tables of word counts and positions of lines are at most the number of words in the text range.
+-- In the table of lines' maximum word counts and in the table of lines' positions, each entry is at most the number
+-- of words in the text range.
 
 pub most_before-low : (code : List Line) (number : ℕ) → Fits code → number ≤ length code → most_before code number ≤ TEXT_WORDS
 most_before-low code number fits within =
@@ -141,7 +142,8 @@ position_left_out code positions number is below = go (is_unreached code number)
         (λ same. omega (arith, same, here, next, position_by code number false reached, some))
         ∙ sym reached
 
--- A branch is near its label if the comparison of two entries in the table of maximum word counts says so, and it is far otherwise.
+-- A branch is near its label if the entries for both lines in the table of maximum word counts differ by at most `MAX_REACH`.
+-- Otherwise the branch is far from its label.
 pub near_here : (code : List Line) (most : List ℕ) (number label : ℕ) (near b : Bool) → most ≡ most_of_each code → number < length code → label < length code
     → near ≡ (nat_le (get_or most label 0) (get_or most number 0 + MAX_REACH) && nat_le (get_or most number 0) (get_or most label 0 + MAX_REACH)) → near ≡ b
     → is_near code number label ≡ b

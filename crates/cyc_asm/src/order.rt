@@ -140,7 +140,8 @@ fn is_filled(lines: &[Line], named: &[bool], number: usize) -> bool
     filling(lines, named, number).is_some()
 }
 
-/// Moves the instruction `count` lines before `number` down to the branch or jump at `number`, if it then fills the empty delay slot there.
+/// Moves the instruction `count` lines before line `number` down to the branch or jump at line `number`, if the instruction then fills its
+/// empty delay slot.
 fn try_past(lines: &mut [Line], named: &[bool], number: usize, count: usize)
     requires within { number < length lines.old }
     requires named { AreNamed lines.old (length lines.old) named.now }
@@ -165,8 +166,8 @@ pub(crate) fn is_ordinary(line: &Line) -> bool
     }
 }
 
-/// Moves an instruction past one or two lines to the branch or jump at `number`, if it then fills the empty delay slot there. Most
-/// lines have no delay slot or a filled one and are skipped at once.
+/// Moves an instruction past one or two lines to the branch or jump at line `number`, if the instruction then fills its empty
+/// delay slot. Most lines need no delay slot or have a filled one, so the function returns at once for them.
 pub(crate) fn settle(lines: &mut [Line], named: &[bool], number: usize)
     requires within { number < length lines.old }
     requires named { AreNamed lines.old (length lines.old) named.now }

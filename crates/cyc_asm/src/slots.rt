@@ -43,8 +43,8 @@ fn leaves(instruction: Instr, condition: Condition) -> bool
     }
 }
 
-/// Returns true if an instruction may be executed after a line's branch or jump instead of before it. Most lines are neither branches nor
-/// jumps and are rejected at once.
+/// Returns true if an instruction may be executed after a line's branch or jump instead of before it. For most lines, which are neither
+/// branches nor jumps, the function returns false at once.
 #[inline]
 pub(crate) fn moves(instruction: Instr, line: &Line) -> bool
     ensures { result ≡ moves instruction line.now }

@@ -1,5 +1,6 @@
--- The search for the outermost region with the greatest cost. The results for the first elements of a list and for its remaining elements
--- give the result for the list. The facts about the costs of lists are also proved for typed tree nodes that hold lists, and for functions.
+-- The search for the outermost region with the greatest cost. The search's result for a list follows from its results for the first
+-- elements and for the remaining elements. The facts about the costs of lists are also proved for typed tree nodes that hold lists, and for
+-- functions.
 use Rattle.std.proofs.Common.{◌≡◌, ℕ, ◌+◌, ◌<◌, ◌≤◌, ◌⊎◌, min, max, List, [], ◌∷◌, length, get_or, drop, Option, sym, ap, subst, ◌∙◌, inl, inr, arith}
 use Rattle.std.specs.Prelude.{slice_get, Contains}
 use Rattle.std.proofs.lemmas.Bool.{cases_lt}

@@ -21,8 +21,9 @@ cost_by program rounds m = run_cost program m (costs_after program m rounds)
 
 -- ---- `return 7;`
 
--- In this example the call of `main` costs 4 steps, the rest of its body 1, the `return` statement 2, and the returned value 3.
--- The last stack entry is the end of `main`, which only an exception pops by a step of its own.
+-- In this example, a program that only returns 7, the call of `main` costs 4 steps. The empty rest of the body of `main` costs
+-- 1 step, the `return` statement 2, and the returned value 3. The last stack entry stands for the end of `main`, which only an
+-- exception pops by a step of its own.
 abbrev seven : Program
 seven = program (return (Number 7) ∷ [])
 
@@ -43,7 +44,7 @@ twice = program_with (function [] (return (Number 7) ∷ []) ∷ []) (return (tw
 twice_costs : cost_by twice 2 measures.Steps ≡ 38
 twice_costs = refl
 
--- example: after two rounds, a further round changes no function's cost
+-- example: after two rounds of the search for the costs of functions, a third round changes no function's cost
 twice_settles : next_costs twice measures.Steps (costs_after twice measures.Steps 2) ≡ costs_after twice measures.Steps 2
 twice_settles = refl
 
@@ -185,7 +186,8 @@ loop_in_region = program (Execute (block (DeclareRegion 2 0 ∷ while (Number 1)
 loop_in_region_blocks : at_once_by loop_in_region 1 measures.RegionBlocks ≡ too_many
 loop_in_region_blocks = refl
 
--- example: a `try` inside a region; the blocks that its body allocated remain when a clause allocates further blocks
+-- example: a `try` statement inside a region; the blocks that the `try` body allocated remain allocated when a catch
+-- clause allocates more blocks
 abbrev try_in_region : Program
 try_in_region = program (Execute (block (DeclareRegion 2 0 ∷ try_to (block (made_by 0 ∷ [])) (otherwise (made_by 0 ∷ [])) ∷ [])) ∷ return (Number 0) ∷ [])
 

@@ -1,5 +1,5 @@
--- Lemmas: lower bounds on the costs of a state's focus (next action) and stack. Costs of stacks are also compared by the facts
--- known about the value for which the newest entry waits.
+-- Lemmas: lower bounds on the costs of a state's focus (next action) and stack. The cost of a stack depends on the facts known about the
+-- value for which the newest entry waits. Lemmas compare the costs of one stack for different facts about this value.
 use Rattle.std.proofs.Common.{◌≡◌, ℕ, zero, suc, ◌+◌, ◌*◌, ◌-◌, ◌^◌, ◌<◌, ◌≤◌, min, Bool, true, false, List, [], ◌∷◌, length, Option, Some, None, refl, sym, ap, ◌∙◌, arith, mul-le-mul_right}
 use Rattle.std.specs.Prelude.{◌==◌, nat_le, if◌then◌else◌}
 use Rattle.std.proofs.lemmas.Bool.{leb-true, le-leb, lt-leb, eqb-true}

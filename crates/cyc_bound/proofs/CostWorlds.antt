@@ -28,7 +28,7 @@ kinds_joined : (before : List Operand) (v : Operand) → kinds_of (blanks_of (be
 kinds_joined [] v = refl
 kinds_joined (x ∷ before) v = ap (λ (ks : List Kind). x.kind ∷ ks) (kinds_joined before v)
 
--- the number of bytes of a struct's fields, computed from the field values listed newest first
+-- the number of bytes of a struct's fields, computed from the list of the field values, in which the last field comes first
 bytes_of_fields : (before : List Operand) → bytes_from 0 (kinds_of (blanks_of (reverse before))) ≡ bytes_before before
 bytes_of_fields [] = refl
 bytes_of_fields (v ∷ before) =

@@ -27,7 +27,7 @@ use Rattle.cyc_meaning.specs.Regions.{is_dynamic, opened_by, opens_with, closes_
 use Rattle.cyc_meaning.specs.Step.{passes, assigned, addressed, counts, step_evaluating, decided, tested, awaits_right, chained, tells, applies_pointer, chosen, looped, supplied, step_given}
 
 module _ (program : Program) (below : List Entry) where
-  -- a state whose stack is extended by further, older entries
+  -- a state after the older stack entries `below` are appended at the bottom of its stack
   abbrev pub under : State → State
   under (Running focus stack e w) = Running focus (stack ++ below) e w
   under (Ended ending output input) = Ended ending output input

@@ -1,5 +1,5 @@
--- The reads, writes and allocations of a step create no handle of the heap and no key. They also open no outermost
--- region with a cost above the bound.
+-- The reads, writes and allocations of a step create no handle of the heap and no key of a dynamic region. They
+-- also open no outermost region that costs more than the bound on the costs of outermost regions.
 use Rattle.std.proofs.Common.{◌≡◌, ℕ, suc, Bool, true, false, List, [], ◌∷◌, ◌++◌, length, reverse, Option, Some, None, refl, zero, ◌+◌, ◌<◌, ◌≤◌, set, sym, ap, subst, ◌∙◌, arith}
 use Rattle.std.specs.Prelude.{if◌then◌else◌, slice_get, nat_lt}
 use Rattle.std.specs.List.{AllByRecursion}

@@ -1,5 +1,5 @@
--- Invariant: if lexical regions free their blocks at their end, a step creates no handle of the heap and no key. If lexical regions
--- free their blocks, a step also opens no outermost region with a cost above the bound.
+-- Invariant: if lexical regions free their blocks at their end, a step creates no handle of the heap and no key of a dynamic region. If
+-- lexical regions free their blocks, a step opens no outermost region that costs more than the bound on the costs of outermost regions.
 use Rattle.std.proofs.Common.{◌≡◌, ℕ, suc, Bool, true, false, List, [], ◌∷◌, length, reverse, Option, Some, None, refl, ◌+◌, ◌<◌, ◌≤◌, max, arith}
 use Rattle.std.specs.Prelude.{◌==◌, ◌*◌, ◌&&◌, nat_le, if◌then◌else◌, slice_get}
 use Rattle.cyc_types.specs.declared.typed.Kind.{Kind}
@@ -41,7 +41,7 @@ use Rattle.cyc_bound.specs.inside.Remaining.{Anything, focus_delivers, stack_cos
 use Rattle.cyc_bound.specs.inside.Outermost.{IsOwn, IsOwnContent, IsOwnOperand, AreOwn, focus_own, IsOwnWorld, IsKeptFocus, IsKeptEntry, AreKept, IsKept}
 use Rattle.cyc_bound.proofs.KeptParts.{reverse_own, writes_own, blanks_own, all_blank, own_made, own_opened, own_closed, handle_own, own_created, own_freed, content_own, own_written, OwnResult, conversion_own, truth_own, unary_own, binary_own, count_own, pointer_own, items_within}
 
--- says that the rest of a block begins with the declaration of a lexical region
+-- says that the declarations and statements that remain of a block begin with the declaration of a lexical region
 abbrev pub OpensIn : Items → Type 0
 OpensIn (MoreItems (DeclareRegion region number) items) = Unit {0}
 OpensIn items = ⊥

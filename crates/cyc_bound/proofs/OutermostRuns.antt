@@ -118,7 +118,7 @@ module _ (m : Measure) where
 
 -- ---- open lexical regions
 
--- says that all open lexical regions have numbers from `from` on
+-- says that the index of every open lexical region is at least `from`
 abbrev pub IsFrom : (from : ℕ) → List Region → Type 0
 IsFrom from regions = ((n : ℕ) → is_open_scope (slice_get regions n) ≡ true → from ≤ n) × (from ≤ length regions)
 
@@ -200,9 +200,10 @@ module _ (program : Program) (lasting : List ℕ) (tables : Measure → List ℕ
   abbrev AreOutside : List Entry → Type 0
   AreOutside stack = (m : Measure) → IsRegional m → AreKept false m (tables m) (cost m) stack
 
-  -- Either no lexical region is open, or all open lexical regions have numbers from some number on. If some are open, the newest stack
-  -- entries are those inside the present outermost region, and all older entries are outside of it. The cost used since that region's
-  -- opening plus the remaining cost of focus and newest entries is at most the cost stated for outermost regions.
+  -- Either no lexical region is open, or there is an index such that all open lexical regions have at least this index. If lexical
+  -- regions are open, the newest stack entries are those inside the present outermost region, and all older entries are outside of it.
+  -- The cost used since the opening of the outermost region, plus the remaining cost of focus and newest entries, is at most the cost
+  -- stated for outermost regions.
   pub data Split (focus : Focus) (w : World) : List Entry → Type 0 where
     Outside : (stack : List Entry) → AreOutside stack → Split focus w stack
     Inside : (from : ℕ) (entry : Entry) (rest below : List Entry) → AreOutside below → IsFrom (suc from) w.regions

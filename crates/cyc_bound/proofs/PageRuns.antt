@@ -60,7 +60,7 @@ pages_grow ones sums site are pages filled (size ∷ sizes) =
         let more = leb-false (filled + size) page_words is in
         (omega (arith, past.0, are.one size), (omega (arith, past.1.0, more, are.all size), omega (arith, past.1.1)))
 
--- says that the regions need one page each, plus at most the further pages for the blocks and words that the two measures count
+-- says that the regions need one page each, plus at most the pages that the blocks counted by `ones` and the words counted by `sums` need
 pub record RegionsAsk (ones sums : Measure) (site : Site) (regions : List Region) (pages : ℕ) : Type 0 where
   pub further : ℕ
   pub all : pages ≤ regions_spent measures.Openings site regions + further
@@ -341,7 +341,7 @@ further_within further blocks words by_blocks by_words =
     let less : further ≤ 2 * words / suc page_words = le-div further (2 * words) (suc page_words) (omega arith) (omega (arith, by_words)) in
     omega (arith, by_blocks, less)
 
--- the number of further pages increases with the number of blocks and the number of words
+-- the bound on the pages besides the first page of each region does not fall when the number of blocks and the number of words grow
 further_more : (further blocks words most all : ℕ) → further ≤ blocks → suc page_words * further ≤ 2 * words → blocks ≤ most → words ≤ all → further ≤ further_pages most all
 further_more further blocks words most all by_blocks by_words less few = further_within further most all (omega (arith, by_blocks, less)) (omega (arith, by_words, few))
 

@@ -27,8 +27,8 @@ module _ (program : Program) where
   not_found_at_once m None other h = h
   not_found_at_once m (Some cost) other h = absurd (other cost refl)
 
-  -- lexical regions free everything allocated by a handle exactly if the cost is 0 that is counted for things that may
-  -- outlast lexical regions
+  -- lexical regions free everything allocated by a handle exactly if the cost counted for handles of the heap used as
+  -- values and for dynamic regions is 0
   pub gives_by : (cost : ℕ) (o : Option ℕ) → o ≡ Some cost → IsFound program measures.Lasting o → GivesBack program (cost == 0)
   gives_by cost o is h = go (cases_eq cost 0)
     where
@@ -38,7 +38,7 @@ module _ (program : Program) where
           let more : cost ≡ suc (cost - 1) = omega (arith, some) in
           subst (λ (b : Bool). GivesBack program b) (sym (ne_eqb cost 0 some)) (inl (cost - 1, subst (λ (n : ℕ). IsRunCost program measures.Lasting n) more (found measures.Lasting o cost is h)))
 
-  -- every cost above the greatest counted value counts as the greatest counted value
+  -- every cost above the greatest counted value `too_many` is replaced by this value
   pub too_many_at_once : (m : Measure) (cost : ℕ) → IsAtOnce program m cost → too_many ≤ cost → IsAtOnce program m too_many
   too_many_at_once m cost h many = subst (λ (n : ℕ). IsAtOnce program m n) (capped h) h
     where

@@ -12,7 +12,8 @@ use Rattle.cyc_bound.proofs.CallLemmas.{following}
 use Rattle.cyc_bound.proofs.WalkLemmas.{calls_at}
 
 module _ (program : Program) where
-  -- says that the search has visited the functions found before index `place`, and has found the callees of these functions
+  -- says that the search has visited the functions before index `place` in the list of functions found, and that the list
+  -- contains the callees of these functions
   pub record IsWalked (marks : List Bool) (found : List ℕ) (place : ℕ) : Type 0 where
     pub marked : AreMarked marks found
     pub first : Contains found program.main
@@ -63,7 +64,8 @@ module _ (program : Program) where
         kept found f marked after h callee (w.closed k below callee before);
   }
 
-  -- says that the search is visiting a function and has added its callees before index i to the functions found
+  -- says that the search is visiting a function, and that the list of functions found already contains the
+  -- callees before index `i` in the function's list of callees
   pub record IsAtPlace (function : ℕ) (callees : List ℕ) (i : ℕ) (marks : List Bool) (found : List ℕ) (place : ℕ) : Type 0 where
     pub walked : IsWalked marks found place
     pub less : place < length found

@@ -1,9 +1,9 @@
 -- The cost of lexical regions that are open at the same time. The cost is counted for each outermost region, from its declaration to the
 -- end of its block. A region is outermost if it is declared while no other region is open. The costs of everything opened and allocated in
--- an outermost region add up, also in the functions called there. No cost is subtracted before the region's end. The end of an outermost
--- region frees everything opened and allocated in it. Of two outermost regions only the costlier one counts, and a loop costs as much as
--- one iteration, because an outermost region's end frees everything in it. The way in which the cost of open regions is counted is this
--- project's own choice.
+-- an outermost region add up, including the costs of functions called in the region. No cost is subtracted before the end of the outermost
+-- region. The end of an outermost region frees everything opened and allocated in it. Of two outermost regions only the costlier one
+-- counts, and a loop costs as much as one iteration, because an outermost region's end frees everything in it. The way in which the cost
+-- of open regions is counted is this project's own choice.
 use Rattle.std.specs.Prelude.{◌≡◌, ◌≤◌, ◌⊎◌, ℕ, min, max, List, Option, Some, None, slice_get}
 use Rattle.cyc_types.specs.TypedTrees.{Statement, Block, If, While, Try, Items, NoItems, MoreItems, Execute, DeclareRegion, Clauses, NoClauses, Default, Case, Function, Program}
 use Rattle.cyc_bound.specs.declared.costs.Measure.{Measure}
@@ -19,8 +19,8 @@ abbrev mutual
   statement_at_once m costs (Try s cs) = max (statement_at_once m costs s) (clauses_at_once m costs cs)
   statement_at_once m costs s = 0
 
-  -- the cost of the costliest outermost region of a block's declarations and statements; a region is open to the end of its block, so the
-  -- rest of the block counts
+  -- the cost of the costliest outermost region of a block's declarations and statements; a region is open to the end of its block, so its
+  -- cost includes all later declarations and statements of the block
   pub items_at_once : Measure → (costs : List ℕ) → Items → ℕ
   items_at_once m costs NoItems = 0
   items_at_once m costs (MoreItems (Execute s) js) = max (statement_at_once m costs s) (items_at_once m costs js)

@@ -1,6 +1,7 @@
--- The functions that a typed tree calls, by their numbers. The list has an entry for each call in the text, in order; a function comes
--- after the functions called in its arguments. Calls of `putchar` and `getchar` do not count. A call counts even if no run reaches it. The
--- order of the listed callees is this project's own choice.
+-- The functions that a typed tree calls, given by the functions' indices. The list of callees has an element for each call in the program
+-- text, in the order of the text; a function comes after the functions called in its arguments. Calls of `putchar` and `getchar` have no
+-- element in the list of callees. A call has an element in the list of callees even if no run reaches the call. The order of the listed
+-- callees is this project's own choice.
 use Rattle.std.specs.Prelude.{ℕ, List, [], ◌∷◌, ◌++◌, Option, None, Some}
 use Rattle.cyc_types.specs.declared.typed.Callee.{Callee}
 use Rattle.cyc_types.specs.declared.typed.Callee.TheVariants as callees

@@ -1,7 +1,7 @@
--- Upper bounds on the costs of a run, computed from a typed tree. A cost is the number of steps, or of regions or blocks of one kind. The
--- costs of subtrees that are executed one after another are added. Of two alternatives the greater cost counts, and an array's element
--- counts once for each possible evaluation. A loop that costs anything has no bound; its cost is the greatest counted value. The
--- definition of these costs is this project's own choice.
+-- Upper bounds on the costs of a run, computed from a typed tree. A cost is the number of steps, or of regions or blocks of one
+-- kind. The costs of subtrees that are executed one after another are added. Of two alternative subtrees (such as the branches of
+-- an `if`) the greater cost counts. The cost of an array's element counts once for each possible evaluation. A loop that costs
+-- anything has no bound; its cost is the greatest counted value. The definition of these costs is this project's own choice.
 use Rattle.std.specs.Prelude.{◌≡◌, ◌<◌, ◌≤◌, ℕ, zero, suc, ◌+◌, ◌*◌, ◌^◌, ◌==◌, if◌then◌else◌, min, max, List, [], map, length, Option, None, Some, get_or}
 use Rattle.cyc_words.specs.Demand.{class_of}
 use Rattle.cyc_types.specs.declared.typed.Kind.{Kind}
@@ -20,7 +20,7 @@ use Rattle.cyc_bound.specs.declared.costs.Site.TheVariants as sites
 use Rattle.cyc_bound.specs.declared.steps.StepBound.{StepBound}
 use Rattle.cyc_bound.specs.declared.steps.StepBound.TheVariants as bounds
 
--- the greatest counted value of a cost; all greater costs count as this value
+-- the greatest value that a computed cost can have; every greater cost is replaced by this value
 abbrev pub too_many : ℕ
 too_many = 2 ^ 50
 
@@ -273,8 +273,8 @@ StillGrow program m = IsClosed program m (costs_after program m most_rounds) →
 
 -- ---- the result for steps
 
--- says that the result is a number of steps after which every run has ended, or that the costs give no such number, or that the costs
--- still grow
+-- Says that the result for steps is a number after which every run has ended, or that the computed cost is too large for a bound. A
+-- third result states that functions' costs still grow after the last round.
 abbrev pub IsStepAnswer : Program → StepBound → Type 0
 IsStepAnswer program (bounds.Steps count) = IsRunCost program measures.Steps count × (count < too_many)
 IsStepAnswer program bounds.TooMany = IsRunCost program measures.Steps too_many

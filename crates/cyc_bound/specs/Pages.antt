@@ -1,5 +1,5 @@
--- An upper bound on the pages of a program, computed from the costs of its runs. The counted costs are the number and the words of the
--- blocks in regions, and the number of unique blocks of each size class.
+-- An upper bound on the pages of a program, computed from the costs of its runs. The costs count regions, the blocks in regions, the
+-- words of these blocks, and the unique blocks of each size class.
 --
 -- If only objects made by `new` can outlast every lexical region, the end of an outermost region frees everything that was opened and
 -- allocated in the region. If other objects may outlast every lexical region, no cost is subtracted when regions close. Freeing a unique
@@ -23,7 +23,7 @@ GivesBack program true = IsRunCost program measures.Lasting 0
 GivesBack program false = ((cost : ℕ) × IsRunCost program measures.Lasting (suc cost)) ⊎ StillGrow program measures.Lasting
 
 -- Says that a measure is one of those that determine the number of pages. If lexical regions free everything allocated by a
--- handle, the heap is counted separately.
+-- handle, the blocks of the heap are counted separately from the blocks of other regions.
 abbrev pub IsForPages : (gives_back : Bool) → Measure → Type 0
 IsForPages gives_back (measures.Uniques class) = class ≤ greatest_class
 IsForPages gives_back measures.Openings = Unit {0}
@@ -35,22 +35,24 @@ IsForPages false measures.Blocks = Unit {0}
 IsForPages false measures.Words = Unit {0}
 IsForPages gives_back m = ⊥
 
--- says that `cost` is the cost for a measure: that of regions open at the same time if regions free their blocks, otherwise that of a run
+-- says that `cost` is the cost for a measure; for a measure of regions it is the cost of regions open at the same time if regions free
+-- their blocks, otherwise that of a run
 abbrev pub IsCost : Program → (gives_back : Bool) → Measure → ℕ → Type 0
 IsCost program true measures.Openings cost = IsAtOnce program measures.Openings cost
 IsCost program true measures.RegionBlocks cost = IsAtOnce program measures.RegionBlocks cost
 IsCost program true measures.RegionWords cost = IsAtOnce program measures.RegionWords cost
 IsCost program gives_back m cost = IsRunCost program m cost
 
--- says that `cost` gives the cost for each measure, and that all these costs are below the greatest counted value
+-- says that `cost` gives the program's cost for each measure that determines the number of pages, and that all
+-- these costs are below the greatest counted value
 abbrev pub AreCounted : Program → (gives_back : Bool) → (cost : Measure → ℕ) → Type 0
 AreCounted program gives_back cost =
     GivesBack program gives_back × ((m : Measure) → IsForPages gives_back m → IsCost program gives_back m (cost m) × (cost m < too_many))
 
 -- ---- pages
 
--- The number of pages of regions besides the first page of each, from the total numbers of blocks and words. Each further page begins
--- with a block, and two consecutive pages of a region contain more words than one page.
+-- The number of pages of regions besides the first page of each region, computed from the total numbers of blocks and words. Each
+-- page after a region's first begins with a block, and two consecutive pages of a region contain more words than one page.
 abbrev pub further_pages : (blocks words : ℕ) → ℕ
 further_pages blocks words = min blocks (2 * words / suc page_words)
 
@@ -59,8 +61,8 @@ abbrev pub unique_pages : (cost : Measure → ℕ) → (classes : ℕ) → ℕ
 unique_pages cost zero = 0
 unique_pages cost (suc class) = unique_pages cost class + pages_for class (cost (measures.Uniques class))
 
--- The number of pages of all regions: one first page for each region, and the further pages. If lexical regions free their blocks, the
--- pages of the heap and those of the regions open at the same time are added.
+-- The number of pages of all regions: one first page for each region, and the pages that its blocks need besides the first page. If lexical
+-- regions free their blocks, the number of pages is the sum of the heap's pages and the pages of regions open at the same time.
 abbrev pub most_region_pages : (gives_back : Bool) → (cost : Measure → ℕ) → ℕ
 most_region_pages true cost =
     1 + further_pages (cost measures.HeapBlocks) (cost measures.HeapWords)
@@ -72,8 +74,9 @@ most_pages gives_back cost = most_region_pages gives_back cost + unique_pages co
 
 -- ---- the result for pages
 
--- Says that the result for pages is a number that no run exceeds, or no number. The result has no number if the costs give one of the
--- counts no bound below `too_many`. The result also has no number if one of the counts still grows.
+-- Says that the result for pages is a number that no run exceeds, or that it gives no number. The result gives no number if the costs
+-- give no bound below `too_many` for a measure that determines the pages. The result also gives no number if a cost that determines
+-- the pages still grows after the last round.
 abbrev pub IsPageAnswer : Program → PageBound → Type 0
 IsPageAnswer program (bounds.Pages count) = (gives_back : Bool) × (cost : Measure → ℕ) × AreCounted program gives_back cost × (count ≡ most_pages gives_back cost)
 IsPageAnswer program bounds.TooMany = (gives_back : Bool) × GivesBack program gives_back × (m : Measure) × IsForPages gives_back m × IsCost program gives_back m too_many

@@ -1,4 +1,4 @@
-//! Computes the bound on calls by a search from `main` over the reachable functions; each function is visited once.
+//! Computes the bound on the number of active calls by a search from `main` over the reachable functions; each function is visited once.
 //!
 //! The search recurses for each call on the path to a function, so its depth is at most the greatest reported bound.
 ghost use Rattle.std.specs.Prelude.{◌≡◌, ◌+◌, ◌<◌, ◌≤◌, get_or, set, length, vec_len, slice_get, IfOk, IfSome};

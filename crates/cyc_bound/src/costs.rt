@@ -41,7 +41,7 @@ pub enum Site {
     Unique,
 }
 
-/// The greatest counted value of a cost; all greater costs count as this value.
+/// The greatest value that a computed cost can have; every greater cost is replaced by this value.
 pub const TOO_MANY: u64 = 1 << 50;
 
 // ---- saturating sums
@@ -234,7 +234,7 @@ pub(crate) fn plain_cost(measure: Measure, site: Site, kind: Kind) -> u64
     with_steps(measure, 3, block_cost(measure, site, size))
 }
 
-/// Returns the cost of an object with the given numbers of fields and bytes.
+/// Returns the cost of creating an object with `count` fields and `bytes` bytes.
 pub(crate) fn fields_made_cost(measure: Measure, site: Site, count: usize, bytes: u128) -> u64
     requires { bytes ≤ 2 ^ 101 }
     ensures { result ≡ min too_many (fields_made_cost measure site count bytes) }

@@ -1,7 +1,7 @@
 //! Computes the costs of a program's functions: the least costs that suffice for the function bodies, found in rounds.
 //!
-//! A round visits functions after their callees, so one round suffices if the program has no cycle of calls. If something is counted
-//! on a cycle of calls, each round raises the costs; the search ends after a few rounds.
+//! A round of the search for costs visits functions after their callees, so one round suffices if the program has no cycle of calls.
+//! If something is counted on a cycle of calls, each round raises the costs; the search ends after at most 16 rounds.
 ghost use Rattle.std.specs.Prelude.{◌≡◌, true, false, max, get_or, set, vec_len, IfOk};
 ghost use Rattle.cyc_types.specs.TypedTreeView.{view_program};
 ghost use Rattle.cyc_bound.specs.Costs.{next_costs, IsClosed};
@@ -16,10 +16,10 @@ use std::alloc::{AllocError, Global};
 /// The maximum number of rounds in the search for costs.
 const MOST_ROUNDS: usize = 16;
 
-/// The maximum depth of the search over calls.
+/// The maximum recursion depth of the search that puts functions after their callees.
 const MOST_DEEP: usize = 4095;
 
-/// Appends a function after its callees, unless the search has already visited the function.
+/// Appends a function to the order of visits, after its callees, unless the search has already visited the function.
 fn add_in_order(
     alloc: Global,
     tree: &TypedTree,
@@ -73,7 +73,7 @@ fn raise(tree: &TypedTree, measure: Measure, costs: &mut Vec<u64>, function: usi
     }
 }
 
-/// Raises the cost of each function once: first in the given order, and then in the order of the functions' numbers.
+/// Raises the cost of each function: first of the functions in `order`, in this order, and then of all functions by ascending index.
 fn raise_all(tree: &TypedTree, measure: Measure, order: &[usize], costs: &mut Vec<u64>)
     requires { vec_len costs.old ≡ vec_len tree.now.functions }
     ensures { AreRaised (view_program tree.now) measure costs.old.items costs.new.items }

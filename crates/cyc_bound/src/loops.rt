@@ -75,7 +75,7 @@ fn default_loop(measure: Measure, costs: &[u64], default: &Option<Body>) -> Opti
     }
 }
 
-/// Returns the first function, called in the given declarations and statements, whose cost reaches the greatest counted value.
+/// Returns the first function that the declarations and statements `items` call and whose cost reaches the greatest counted value.
 fn costly_callee(
     alloc: Global,
     costs: &[u64],
@@ -91,8 +91,8 @@ fn costly_callee(
     Ok(None)
 }
 
-/// Returns the first loop that costs something in a function. If the function has no such loop, its
-/// callees are searched, then their callees, and so on.
+/// Returns the first loop that costs something in a function. If the function has no such loop, the
+/// function's callees are searched for one, then the callees of these callees, and so on.
 fn loop_from(
     alloc: Global,
     tree: &TypedTree,
@@ -300,8 +300,8 @@ fn loop_of_regions(
     Ok(opening.or(first_loop(alloc, tree, order, Measure::Blocks)?))
 }
 
-/// Returns the source position of a loop that prevents a bound on pages, if there is one. Each iteration of such a loop opens or
-/// allocates something that is not freed at the iteration's end.
+/// Returns the source position of a loop that prevents a bound on pages, if there is one. Each iteration of such a loop opens a
+/// region or allocates an object that is not freed at the iteration's end.
 pub fn loop_of_pages(alloc: Global, tree: &TypedTree) -> Result<Option<Span>, AllocError> {
     let order = order_of(alloc, tree)?;
     if let Some(span) = loop_of_regions(alloc, tree, &order)? {

@@ -1,5 +1,5 @@
-//! Computes the bound on pages from the costs of runs. The counted costs are the number and words of the blocks in regions, and the number
-//! of unique blocks of each size class. If lexical regions free everything allocated in them, only regions open at the same time count.
+//! Computes the bound on pages from the costs of runs. The costs count regions, the blocks in regions, the words of these blocks, and the
+//! unique blocks of each size class. If lexical regions free everything allocated in them, only regions open at the same time count.
 ghost use Rattle.std.specs.Prelude.{◌≡◌, ◌<◌, ◌≤◌, true, false, IfOk};
 ghost use Rattle.cyc_words.specs.Demand.{blocks_in_page, pages_for};
 ghost use Rattle.cyc_types.specs.TypedTreeView.{view_program};
@@ -32,7 +32,7 @@ pub enum PageBound {
 /// The number of size classes of unique blocks.
 const CLASSES: u32 = 11;
 
-/// Returns the number of pages of regions besides the first page of each, from the total numbers of blocks and words.
+/// Returns the number of pages of regions besides the first page of each region, computed from the total numbers of blocks and words.
 fn further_pages(blocks: u64, words: u64) -> u64
     requires { words < too_many }
     ensures { result ≡ further_pages blocks words }
@@ -60,7 +60,7 @@ fn pages_for(class: u32, blocks: u64) -> u64
     (blocks + (in_page - 1)) / in_page
 }
 
-/// Returns the number of pages for all unique blocks, or the reason why there is no bound.
+/// Returns the number of pages for all unique blocks, or the reason why there is no bound on these pages.
 fn unique_pages(alloc: Global, tree: &TypedTree, order: &[usize]) -> Result<PageBound, AllocError>
     ensures { IfOk result (λ bound. IsUniqueAnswer (view_program tree.now) bound) }
 {
@@ -92,7 +92,7 @@ pub(crate) fn gives_back(
     }
 }
 
-/// Returns the number of pages of regions if no region is freed, or the reason why there is no bound.
+/// Returns the number of pages of regions under the assumption that no region is freed, or the reason why there is no bound on these pages.
 fn pages_of_all(alloc: Global, tree: &TypedTree, order: &[usize]) -> Result<PageBound, AllocError>
     ensures { IfOk result (λ bound. IsRegionAnswer (view_program tree.now) false bound) }
 {
@@ -144,7 +144,7 @@ fn pages_at_once(alloc: Global, tree: &TypedTree, order: &[usize]) -> Result<Pag
     Ok(PageBound::Pages { count })
 }
 
-/// Returns the number of pages of all regions, including the heap, or the reason why there is no bound.
+/// Returns the number of pages of all regions, including the heap, or the reason why there is no bound on these pages.
 fn region_pages(
     alloc: Global,
     tree: &TypedTree,
@@ -162,8 +162,9 @@ fn region_pages(
 
 /// Returns a bound on the heap pages that any run of a program requests, for all inputs.
 ///
-/// A loop or cycle of calls in which nothing is opened or allocated does not prevent a bound. If lexical regions free their blocks, a
-/// loop that opens and closes a region does not prevent a bound either. If memory runs out, `pages_of` returns an error.
+/// A loop or cycle of calls in which nothing is opened or allocated does not prevent a bound on pages. If lexical regions free their
+/// blocks, a loop that opens and closes a region in each iteration does not prevent a bound on pages. If memory runs out, `pages_of`
+/// returns an error.
 pub fn pages_of(alloc: Global, tree: &TypedTree) -> Result<PageBound, AllocError>
     ensures { IfOk result (λ bound. IsPageAnswer (view_program tree.now) bound) }
 {

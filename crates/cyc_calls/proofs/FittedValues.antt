@@ -83,7 +83,8 @@ stands_known table n s known h other = record {
   usual = usual_variable n s other;
 }
 
--- At the first occurrence of a region variable, the region found there is recorded for the variable.
+-- At the first occurrence of a region variable in the parameter types, the table records for the variable the argument's region at this
+-- occurrence.
 pub first_stands : (table : Table) (n : ℕ) (s : Region) → slice_get table n ≡ Some None → region_eq s Unique ≡ false → Stands table (slice_set table n (Some s)) (Variable n) s s
 first_stands table n s h other = record {
   noted = sym (ap (λ o. noted_at o n s table) h);
@@ -91,7 +92,8 @@ first_stands table n s h other = record {
   usual = usual_variable n s other;
 }
 
--- If a region fits a parameter's region, it still fits after regions at further occurrences are recorded.
+-- If an argument's region fits a parameter's region, it still fits after the table also records the
+-- regions at later occurrences of region variables.
 alike_after : {a b c : Table} {r s : Region} (ps : Places) → FitsRegion a b r s → c ≡ noted_places b ps → (later : Places) → region_eq s (substituted_region (instance_later c later) r) ≡ true
 alike_after {b = b} {r = r} {s = s} ps one is_c later =
     subst (λ t. region_eq s (substituted_region (instance_in t) r) ≡ true) (noted_append b ps later ∙ ap (λ t. noted_places t later) (sym is_c)) (one.alike (ps ++ later))
@@ -256,7 +258,7 @@ fitting_run g p es as' s table fits =
     ap (λ o. unless o (instance_in table)) (sym (fitting_settled g p es as' s (Some Heap ∷ replicate s.variables None) table fits))
     ∙ ap (λ (m : List Region). unless (settled None (call_demanded g p es as' s (instantiated m s))) m) (fitting_instance g.regions s as' table fits)
 
--- If a function that may return a fault returns a result, then there is no fault.
+-- If `unless`, which returns a known fault instead of a result, returns a result, then no fault is known.
 pub given_kept : {A : Type 0} (known : Option Fault) (a b : A) → unless known a ≡ Ok b → known ≡ None
 given_kept None a b h = refl
 given_kept (Some f) a b h = absurd (ok_is_no_err b f (sym h))

@@ -37,8 +37,8 @@ noted_length table ((Variable n, r) ∷ ps) = noted_length (noted_at (slice_get 
 noted_length table ((Heap, r) ∷ ps) = noted_length table ps
 noted_length table ((Unique, r) ∷ ps) = noted_length table ps
 
--- Replacing a table's elements, from the first on, by those of the table with further recorded regions yields the latter table, since both
--- have equal length.
+-- In a table of regions, all elements are replaced by those of the table in which further regions are recorded. This replacement yields
+-- the table with the further regions, since both tables have equal length.
 pub noted_whole : (table : List (Option Region)) (ps : List (Region × Region)) → refill (length table) table (noted_places table ps) ≡ noted_places table ps
 noted_whole table ps =
     let long : length (noted_places table ps) ≡ length table = noted_length table ps in
@@ -67,7 +67,7 @@ none_paired : (rs : List Region) → all_paired rs [] ≡ []
 none_paired [] = refl
 none_paired (r ∷ rs) = refl
 
--- If no regions remain from an index on, then there are no pairs of regions left.
+-- If a list of regions has no elements from an index on, then pairing the regions of two lists from this index on yields no pairs.
 pub paired_past : (rs ss : List Region) (i : ℕ) → length ss ≤ i → all_paired (drop i rs) (drop i ss) ≡ []
 paired_past rs ss i le = ap (all_paired (drop i rs)) (drop_all i ss le) ∙ none_paired (drop i rs)
 
@@ -76,7 +76,7 @@ none_given [] = refl
 none_given (t ∷ ts) = refl
 
 module _ (ts : List TyCode) (cs : List ConvertedCode) (i : ℕ) where
-  -- If no values remain from an index on, then there are no pairs of parameter and argument regions left.
+  -- If a call has no values from an index on, then pairing the regions of parameters and arguments from this index on yields no pairs.
   pub given_past : length cs ≤ i → paired_arguments (map view_ty (drop i ts)) (map value_in (drop i cs)) ≡ []
   given_past le = ap (λ xs. paired_arguments (map view_ty (drop i ts)) (map value_in xs)) (drop_all i cs le) ∙ none_given (map view_ty (drop i ts))
 

@@ -1,4 +1,4 @@
--- The values of a new struct are converted before the check that there is one for each field.
+-- The values of a new struct are converted before the check that the struct has as many fields as there are values.
 use Rattle.std.proofs.Common.{◌≡◌, true, nat_eq, List, [], ◌∷◌, ◌++◌, length, map, Option, None, sym, ap, ◌∙◌}
 use Rattle.std.proofs.lemmas.Bool.{eqb-true}
 use Rattle.std.proofs.lemmas.List.{length-map}

@@ -75,8 +75,8 @@ fn is_covered(scope: &Scope<'_>, table: &[Option<Region>], effect: &[Region]) ->
     true
 }
 
-/// Checks that all regions of an effect are live at a source position, given the table of regions of the call. Most effects are live
-/// and need no further check.
+/// Checks that all regions of an effect are live at a source position, after region variables are replaced by the regions in the
+/// table of the call. For most effects, one first test shows that all regions are live, and no further check is needed.
 #[tactic(auto, using(std::proofs::lemmas::List::drop_more, crate::proofs::Settling::covered_settled))]
 fn demand_effect(
     so_far: &mut Settled,

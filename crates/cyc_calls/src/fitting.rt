@@ -211,7 +211,7 @@ fn fits_value(
     }
 }
 
-/// Returns true if there are as many values as parameters, and each value can be converted to the type at its index.
+/// Returns true if there are as many values as parameters, and each value can be converted to the parameter type at the value's index.
 pub(crate) fn fits(
     scope: &Scope<'_>,
     table: &mut [Option<Region>],

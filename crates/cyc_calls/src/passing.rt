@@ -40,7 +40,7 @@ fn set_kinds(value: &mut Converted, wanted: &Ty)
     value.to = kind_of(wanted);
 }
 
-/// Sets the source and target types of the conversion of the value at an index, if there is one.
+/// Sets the source type and the target type in the conversion of the value at an index, if there is a value at this index.
 fn set_kinds_at(values: &mut Vec<Converted>, index: usize, wanted: &Ty)
     ensures { values.new.items ≡ with_kinds_at (slice_get values.old.items index) values.old.items index wanted.now }
 {
@@ -49,7 +49,7 @@ fn set_kinds_at(values: &mut Vec<Converted>, index: usize, wanted: &Ty)
     }
 }
 
-/// Sets the source and target types of the conversion of each value for which there is a type.
+/// Sets the source type and the target type in the conversion of each value for which the list of types has an element.
 pub(crate) fn set_all_kinds(values: &mut Vec<Converted>, types: &[Ty])
     ensures { values.new.items ≡ all_with_kinds values.old.items types.now }
 {

@@ -1,6 +1,6 @@
-//! Calls of plain signatures: each region of a parameter is a variable that occurs once. The regions of the values of such a call only
-//! have to be live, and no region is recorded. If the traversal finds a value that does not fit its parameter, the call is checked like
-//! a call of any other signature.
+//! Calls of plain signatures, in which each region of a parameter is a region variable that occurs only once. The regions of the values
+//! of such a call only have to be live, and no region is recorded. If the traversal finds a value that does not fit its parameter, the
+//! call is checked like a call of a signature that is not plain.
 ghost use Rattle.std.specs.Prelude.{◌≡◌, length, map, option_map, IsTrue, IfOk};
 ghost use Rattle.cyc_syntax.specs.inside.TreeView.{place_of_span, view_name, expressions_of};
 ghost use Rattle.cyc_types.specs.declared.region.Region.TheVariants.{Heap};
@@ -140,7 +140,7 @@ fn takes_value(scope: &Scope<'_>, wanted: &Ty, value: Given<'_>) -> bool
     }
 }
 
-/// Returns true if there are as many values as parameters, and each value can be converted to the type at its index.
+/// Returns true if there are as many values as parameters, and each value can be converted to the parameter type at the value's index.
 fn takes_all(scope: &Scope<'_>, parameters: &[Ty], values: &[Converted]) -> bool
     ensures { IsTrue result → TakesAll scope.now (map view_ty parameters.now) (map value_in values.now) }
 {

@@ -44,10 +44,11 @@ pub enum Request<'a> {
         emit: Option<&'a str>,
         is_json: bool,
     },
-    /// `run IMAGE`, or `exec SOURCE` if `is_source` is true: runs the image in the file `file`, or the image of the program in it, over a
-    /// store of the kind `store`. The limits are the given ones or else the image's, but none is above `caps`; the run takes at most
-    /// `budget` instructions. A report of the run is written to the file `report`, if one is named; if `peaks` is true, it has the largest
-    /// numbers of active calls and of used pages. If a file `places` is named, the command tells where in the program the run ended.
+    /// `run IMAGE`, or `exec SOURCE` if `is_source` is true: runs the image in the file `file`, or the image compiled from the program in
+    /// `file`, over a store of the kind `store`. The limits on pages and calls are those of `limits` or, if one is missing there, the
+    /// image's, but none is above `caps`; the run takes at most `budget` instructions. A report of the run is written to the file
+    /// `report`, if one is named; if `peaks` is true, the report has the largest numbers of active calls and of used pages. If a file
+    /// `places` is named, the command tells where in the program the run ended.
     Run {
         file: &'a str,
         is_source: bool,
@@ -59,8 +60,8 @@ pub enum Request<'a> {
         peaks: bool,
         places: Option<&'a str>,
     },
-    /// `disasm IMAGE`: lists the instructions of an image, at most `most` of them if a number is given. If a file `places` is named, the
-    /// functions and lines of the program are listed beside the instructions.
+    /// `disasm IMAGE`: lists the instructions of an image, but at most `most` instructions if `most` has a number. If a file `places` is
+    /// named, the functions and lines of the program are listed beside the instructions.
     Disassemble {
         image: &'a str,
         most: Option<u32>,

@@ -129,7 +129,7 @@ enum Form {
     Number(&'static str),
     /// An option followed by a number, which may be absent.
     Limit,
-    /// The number of a fault code; if it is omitted, all codes are listed.
+    /// A command-line argument that is the number of a fault code; if the argument is omitted, the command lists all codes.
     Code,
     /// An option followed by a file, which may be absent.
     FileIfGiven,
@@ -558,8 +558,8 @@ fn plan_named(name: &str) -> Option<&'static Plan> {
     None
 }
 
-/// Returns the command with this name alone, so that a mistake in its arguments is reported with the command's own usage. Returns the
-/// complete program if there is no command with this name.
+/// Returns the command-line definition of only the command with this name, so that a mistake in its arguments is reported with this
+/// command's usage. Returns the definition of the whole program, with all commands, if there is no command with this name.
 pub(crate) fn command_named<'a>(alloc: Global, name: &str) -> Result<Command<'a>, AllocError> {
     match plan_named(name) {
         Some(plan) => command(alloc, plan),

@@ -150,7 +150,7 @@ fn write_blank_text<W: fmt::Write>(text: &str, f: &mut fmt::Formatter<W>) -> fmt
 }
 
 /// A piece of text for display. UTF-8 is unchanged, except that characters that are invisible, control a terminal or change the
-/// writing direction are shown by their numbers. Bytes that are not UTF-8 are shown by their numbers too.
+/// writing direction are shown by their code numbers. Bytes that are not UTF-8 are shown as numbers.
 #[derive(Drop)]
 pub struct Shown<'a>(pub &'a [u8]);
 

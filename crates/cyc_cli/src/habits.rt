@@ -1,6 +1,6 @@
 //! This file finds usual mistakes of programmers (habits) at a fault. In each row of a table of habits, the first group of words
-//! precedes the position of the fault, and the second begins there. The third group of words names a token that the parser would
-//! accept at the position of the fault.
+//! precedes the position of the fault, and the second group begins at this position. In each row of a table of habits, the third
+//! group of words names a token that the parser would accept at the position of the fault.
 use crate::advice::hint;
 use crate::excerpt::line_at;
 use cyc_words::Code;
@@ -252,7 +252,7 @@ throw new~case & ~~ any ~~ any ~~ declare the exception: datatype exn { Failed; 
 struct ~~ any ~~ any ~~ declare the struct: struct P { int x; int y; };
 any ~~ call ~~ any ~~ declare the function: int f(int n) { return n; }, or compile --with lib/*.cyc if the library has it";
 
-/// A position in a source text, with the text around it and the tokens that could stand there.
+/// A position in a source text, with the text around it and the tokens that the parser would accept at this position.
 #[derive(Clone, Copy)]
 struct Place<'a> {
     /// The text before the position on its line.
@@ -265,7 +265,7 @@ struct Place<'a> {
     expected: &'a [u8],
 }
 
-/// Returns true if a byte at the edge of a searched word and the byte next to it in the text could be part of one longer name.
+/// Returns true if the first or last byte of a word and the byte next to the word in the text could be in one longer name.
 fn is_joined(edge: Option<&u8>, beside: Option<&u8>) -> bool {
     match (edge, beside) {
         (Some(edge), Some(beside)) => {
@@ -363,7 +363,7 @@ fn begun(text: &[u8]) -> &[u8] {
     last
 }
 
-/// The largest number of bytes that are searched for the beginning of a statement.
+/// The number of bytes at the beginning of a text among which a word is searched for.
 const MOST_BEGUN: usize = 160;
 
 /// Returns true if a word occurs among the first `MOST_BEGUN` bytes of a text.
@@ -462,8 +462,8 @@ fn advice_of(habit: &'static str, place: Place<'_>) -> Option<&'static str> {
     }
 }
 
-/// Returns the advice on a fault at a position of a text where these tokens could be. The result is the advice on a habit (a usual
-/// mistake) if one matches, otherwise the advice on the code.
+/// Returns the advice on a fault at a source position where the parser would accept the tokens `expected`. The result is the
+/// advice on a habit (a usual mistake) if the text around the fault matches one, otherwise the advice on the fault code.
 pub fn hint_at(code: Code, text: &[u8], line: u32, column: u32, expected: &[u8]) -> &'static str {
     let whole = line_at(text, line);
     let (left, at) = whole.split_at(whole.len().min(column.saturating_sub(1) as usize));

@@ -141,7 +141,7 @@ impl fmt::Display for Related<'_> {
     }
 }
 
-/// A JSON array that contains the source position related to a fault, or nothing if there is none.
+/// A JSON array with the source position related to a fault as its only element, or an empty array if there is no related position.
 #[derive(Drop)]
 struct RelatedList<'a>(&'a Option<Related<'a>>);
 
@@ -187,7 +187,7 @@ pub struct Entry<'a> {
     pub range: Range,
     /// The description of the fault or warning, on one line.
     pub message: &'a str,
-    /// Further lines of text about the fault or warning.
+    /// An optional longer text about the fault or warning, of one or more lines.
     pub detail: Option<&'a str>,
     /// The advice on the fault or warning.
     pub hint: Option<&'a str>,

@@ -34,7 +34,7 @@ impl Model for GivenLimits {
     ghost inverse = { λ g. record { pages = g.pages; calls = g.calls } };
 }
 
-/// Returns a number, or the given upper bound (cap) if there is one and the number is above it.
+/// Returns the smaller of a number and an upper bound (cap), or the number itself if there is no upper bound.
 fn capped(number: u32, cap: Option<u32>) -> u32
     ensures { result ≡ capped cap number }
 {
@@ -60,8 +60,8 @@ impl GivenLimits {
         }
     }
 
-    /// Returns the limits on pages and calls that are stored in a compiled image: none if no limit is given, otherwise both, with the
-    /// default for a missing one.
+    /// Returns the limits on pages and calls that are stored in a compiled image. If neither limit is given, no limits are stored; if
+    /// only one limit is given, the default is stored for the other limit.
     pub fn carried(self) -> Option<(u32, u32)>
         ensures value { result ≡ carried_by self.pages self.calls }
         ensures allowed { IfSome result (λ limits. AreAllowed limits.0 limits.1) }

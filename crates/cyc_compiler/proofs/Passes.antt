@@ -67,8 +67,8 @@ module _ (IsLike : Routine → Routine → Type 0) (like_of : (h : Function) (r 
   functions_made (h ∷ hs) (r ∷ rs) (s ∷ ss) long like (is, are) =
       (like_of h r s is (like 0 (omega arith)), functions_made hs rs ss (omega (arith, long)) (λ k below. like (suc k) (omega (arith, below))) are)
 
--- A simulation assigns to each step of the upper (source-level) machine a list of code positions of the lower machine. These lists may
--- be replaced by others that cost at least as much.
+-- A simulation assigns to each step of the upper (source-level) machine a list of code positions of the lower machine. Each of these
+-- lists may be replaced by a list that costs at least as much, no matter how the positions are priced.
 module _ (above below : Machine) (before : List below.Place) (own dearer : above.Place → List below.Place) (start : above.State) (from : below.State)
     (more : (price : below.Place → ℕ) (p : above.Place) → sum_by price (own p) ≤ sum_by price (dearer p)) where
   sums_dearer : (price : below.Place → ℕ) (places : List above.Place)

@@ -1,5 +1,5 @@
--- This file is about the image of a compiled program after it is loaded: its words are in the memory's code
--- and data ranges, where the machine for labelled code has them too.
+-- This file is about the image of a compiled program after it is loaded. The words of the loaded image are
+-- in the memory's code and data ranges, as they are in the machine for labelled code.
 use Rattle.std.proofs.Common.{◌≡◌, ℕ, zero, suc, ◌+◌, ◌-◌, ◌*◌, ◌/◌, ◌^◌, ◌≤◌, ◌<◌, List, [], ◌∷◌, ◌++◌, length, true, false, cond, ◌&&◌, nat_le, nat_lt, max, Option, None, Some, refl, sym, ap, ◌∙◌, arith, inl, inr, length-append, get_or, map}
 use Rattle.std.specs.Prelude.{slice_index, replicate, unwrap_or, All, AllPairs, sum_by}
 use Rattle.std.specs.List.{range_with_len, AllByRecursion, list_any}

@@ -1,5 +1,5 @@
--- This file has a worked example. The program prints A and then returns the byte that it reads. An image that reads the byte before it
--- prints also prints A and returns that byte, but it is no image of the program.
+-- This file has a worked example. The example program prints A and then returns the byte that it reads. An image that reads a byte
+-- before it prints A also returns this byte, but by definition it is no image of the program.
 use Rattle.std.proofs.Common.{◌≡◌, ℕ, zero, suc, List, [], ◌∷◌, ◌++◌, Option, Some, None, Ok, refl, sym, ap, subst, ◌∙◌, arith}
 use Rattle.cyc_words.specs.Seen.{Seen, showing}
 use Rattle.cyc_words.specs.Word.{sign_extended}

@@ -1,4 +1,4 @@
--- A source program has a frame that is too large exactly if its plain program has one, function by function.
+-- A function of a source program has a frame that is too large exactly if the function made from it in the plain (lowered) program has one.
 use Rattle.std.proofs.Common.{◌≡◌, ◌⊎◌, inl, inr, ℕ, zero, suc, ◌≤◌, ◌<◌, List, [], ◌∷◌, length, None, Some, refl, sym, ap, subst, ◌∙◌, arith, slice_get}
 use Rattle.std.specs.Prelude.{slice_index_or}
 use Rattle.cyc_words.specs.declared.fault.Fault.{Fault}

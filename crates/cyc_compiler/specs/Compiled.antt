@@ -27,11 +27,11 @@ pub record IsSmallEnough (p : Program) : Type 0 where
   pub functions : length p.functions ≤ max_functions
   pub frames : (k : ℕ) (g : Function) → slice_get p.functions k ≡ Some g → frame_count g ≤ max_frame_words
 
--- Says that p is the given program, and that it is not too large.
+-- Says that the program `p` is the program `given`, and that it is not too large.
 abbrev pub IsSmall : (given p : Program) → Type 0
 IsSmall given p = (p ≡ given) × IsSmallEnough p
 
--- Says that the program of the text is too large.
+-- Says that the front end accepts the text, and that the program of the text is rejected with this fault because it is too large.
 abbrev pub IsTooLargeText : List ℕ → Fault → Type 0
 IsTooLargeText text f = (p : Program) × IsAcceptedText text p × IsTooLarge p f
 

@@ -57,7 +57,7 @@ pub record IsData (globals : ℕ) (s : SegmentContents) : Type 0 where
   pub size : s.size ≡ 4 * globals
 
 -- Says that the segments are those of a program with this many machine words of globals: one code segment, one data
--- segment if there are globals, and no others.
+-- segment if there are globals, and no third segment.
 abbrev pub AreOfProgram : (globals : ℕ) → List SegmentContents → Type 0
 AreOfProgram zero (text ∷ []) = IsText text
 AreOfProgram (suc globals) (text ∷ variables ∷ []) = IsText text × IsData (suc globals) variables

@@ -135,7 +135,7 @@ pub fn compile_with_tokens(
     // For every input and without limits, no step of any run of the program accesses a closed region or a freed object. Each step has a
     // rule of the semantics.
     ensures sound { IfOk result (λ _. (p : Program) → IsAcceptedText text.now p → IsSound p) }
-    // The image contains the limits of runs in `note`.
+    // The image contains the limits on pages and calls that `note` gives, or no limits if `note` gives none.
     ensures note { IfOk result (λ made. Carries made.image.items note) }
 {
     let phases = run_phases(alloc, text)?;
@@ -158,15 +158,16 @@ pub fn compile_with_tokens(
 /// frame may need more than 256 words. Lack of memory is another error.
 pub fn compile_with(alloc: Global, text: &[u8], note: Option<(u32, u32)>) -> Result<Vec<u8>, Fault>
     requires { AreAllowedIfAny note }
-    // The result is an image that the machine can load and that does what the program of the text means. At every point the machine's
-    // output, together with the rest of its input, is that of the limited program after some number of steps. The machine ends as the
-    // program does, and does nothing else. Each returned fault is a fault of the front end, or states that the program is too large.
+    // The result is an image that the machine can load and that does what the program of the text means. At every point of a run, the
+    // machine's output and unread input are those of the program with limits on pages and calls after some number of steps. The
+    // machine ends as the program ends, and the machine has no behaviour that the program lacks. Each returned fault is a fault of
+    // the front end, or states that the program is too large.
     ensures decides { Decides (IsCompiledText text.now) (λ p file. IsImageOf p file.items) (IsRefusedAtLast text.now) (HasFaultAtLast text.now) result }
     // For every input and without limits, each step of every run of the program has a rule of the semantics. In particular, no step
     // accesses a cell of a closed region or of a freed object.
     ensures sound { IfOk result (λ _. (p : Program) → IsAcceptedText text.now p → IsSound p) }
-    // The image contains the limits of runs in `note`. These limits do not affect the image's meaning: the user who runs the image sets
-    // the limits of the run.
+    // The image contains the limits on pages and calls that `note` gives, or no limits if `note` gives none. These limits do not affect
+    // the image's meaning: the user who runs the image sets the limits of the run.
     ensures note { IfOk result (λ file. Carries file.items note) }
 {
     let made = compile_with_tokens(alloc, text, note)?;
@@ -175,9 +176,10 @@ pub fn compile_with(alloc: Global, text: &[u8], note: Option<(u32, u32)>) -> Res
 
 /// Compiles a text to an image without limits, as `compile_with` does with `None`, and returns the bytes of its file.
 pub fn compile(alloc: Global, text: &[u8]) -> Result<Vec<u8>, Fault>
-    // The result is an image that the machine can load and that does what the program of the text means. At every point the machine's
-    // output, together with the rest of its input, is that of the limited program after some number of steps. The machine ends as the
-    // program does, and does nothing else. Each returned fault is a fault of the front end, or states that the program is too large.
+    // The result is an image that the machine can load and that does what the program of the text means. At every point of a run, the
+    // machine's output and unread input are those of the program with limits on pages and calls after some number of steps. The
+    // machine ends as the program ends, and the machine has no behaviour that the program lacks. Each returned fault is a fault of
+    // the front end, or states that the program is too large.
     ensures decides { Decides (IsCompiledText text.now) (λ p file. IsImageOf p file.items) (IsRefusedAtLast text.now) (HasFaultAtLast text.now) result }
     // For every input and without limits, each step of every run of the program has a rule of the semantics. In particular, no step
     // accesses a cell of a closed region or of a freed object.

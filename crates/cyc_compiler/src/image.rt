@@ -49,7 +49,8 @@ fn segment_of(alloc: Global, vaddr: u32, flags: u32, words: &[u32]) -> Result<Se
     })
 }
 
-/// Returns the image of a program: a code segment, a data segment if there are globals, and the limits.
+/// Returns the image of a program: a code segment, a data segment if there are globals, and the limits
+/// on pages and calls in `note`, if there are any.
 fn image_of_program(
     alloc: Global,
     words: &[u32],

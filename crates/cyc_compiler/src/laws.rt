@@ -77,9 +77,9 @@ pub fn images_end_alike_over_every_store()
         → ((last : End) × (end_of w ≡ Some last) × (ending_of last ≡ ending_of end)) × (seen_in w ≡ seen_in v)) }
 {}
 
-/// If an image requests a byte after the end of its input for the first time, then its program does so too. With one more byte of input,
-/// the program reads this byte, and has printed exactly what the image has printed. Before an image requests a byte, it cannot know that
-/// its input has ended.
+/// If an image requests a byte after the end of its input for the first time, its program requests a byte after the end of the input.
+/// With one more byte of input, the program reads this byte, and has printed exactly what the image has printed. Before an image
+/// requests a byte, it cannot know that its input has ended.
 pub fn asks_only_what_is_asked()
     ensures { (p : Program) (image : ImageContents) → DoesTheSame p image
         → (limits : Bounds) (store : StoreState) (input : List ℕ) (b : ℕ) → AreAllowed limits.pages limits.calls → IsNew limits.pages store

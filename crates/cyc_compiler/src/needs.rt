@@ -52,10 +52,10 @@ pub fn bounds_with_tokens(alloc: Global, text: &[u8]) -> Result<Bounded, Fault>
 ///
 /// The front end runs first, and its faults are returned. Lack of memory is another error.
 pub fn bounds(alloc: Global, text: &[u8]) -> Result<Bounds, Fault>
-    // The bound on calls is the height of `main` in the call graph: no run has more active calls. Hence no run is full for lack of calls
-    // if its limits allow as many (`calls_stay_within` of `cyc_bound`). If there is no bound, then the reported cycle of calls is a
-    // cycle. The bounds on pages and steps come from the costs of the functions. No run is full for lack of pages if its limits allow as
-    // many (`pages_stay_within`), and each run ends within the bound on steps (`steps_end`).
+    // The bound on calls is the length of the longest chain of calls from `main`: no run has more active calls. Hence no run ends for lack
+    // of calls if its limit on calls is at least this bound (`calls_stay_within` of `cyc_bound`). If there is no bound on calls, then the
+    // reported cycle of calls is a cycle. The bounds on pages and steps come from the costs of the functions. No run ends for lack of pages
+    // if its limit on pages is at least the bound on pages (`pages_stay_within`). Each run ends within the bound on steps (`steps_end`).
     ensures decides { Decides (IsAcceptedText text.now) AreBounds (IsRefusedText text.now) (HasFault text.now) result }
 {
     let program = accept(alloc, text)?;

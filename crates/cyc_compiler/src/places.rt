@@ -99,8 +99,8 @@ fn own_cause(source: Source) -> Cause {
     Cause { source, site: None }
 }
 
-/// Returns the source position that the lowering noted as the mark with this index or, if there is none, the position
-/// of the function's name.
+/// Returns the source position at this index in the lowering's list of source positions (marks), or the position of
+/// the function's name if the list is too short.
 fn span_of(marks: &Marks, mark: usize, name: Span) -> Span {
     match marks.marks.get(mark) {
         Some(mark) => mark.span,
@@ -444,7 +444,7 @@ pub fn compile_with_places(
     drop(phases.tree);
     let image = build(alloc, &phases.program, note)?;
     let Ok(places) = places_of(alloc, &phases.program, exceptions) else {
-        // Every fault except lack of memory was reported before there was an image.
+        // Every fault except lack of memory was reported before the image was made.
         return Err(Fault::memory());
     };
     Ok(Placed {

@@ -1,5 +1,5 @@
-//! The signatures and other declarations of a program: their types, their faults, and the results that the checks of functions use. The
-//! crate also returns the parts of a typed program other than the bodies of its functions.
+//! The signatures and other declarations of a program: their types, their faults, and the results that the checks of function bodies
+//! use. The crate also returns everything of a typed program except the bodies of its functions.
 #![tactic(auto)]
 
 pub use program::{Parts, parts_of};

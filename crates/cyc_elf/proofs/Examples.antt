@@ -11,8 +11,8 @@ use Rattle.cyc_elf.specs.Reading.{file_rules, own_rules, entry_rules, reading}
 abbrev kind : List ℕ
 kind = 127 ∷ 69 ∷ 76 ∷ 70 ∷ 1 ∷ 2 ∷ 1 ∷ 0 ∷ 0 ∷ 0 ∷ 0 ∷ 0 ∷ 0 ∷ 0 ∷ 0 ∷ 0 ∷ 0 ∷ 2 ∷ 0 ∷ 8 ∷ 0 ∷ 0 ∷ 0 ∷ 1 ∷ []
 
--- The example file's header states that the program headers begin at 52, with no sections and no flags. The file header
--- has 52 bytes, a program header has 32, and there is one program header.
+-- The example file's header states that the program headers begin at file offset 52, and that the file has no sections
+-- and no flags. The file header has 52 bytes, a program header has 32 bytes, and there is one program header.
 abbrev table : List ℕ
 table = 0 ∷ 0 ∷ 0 ∷ 52 ∷ 0 ∷ 0 ∷ 0 ∷ 0 ∷ 0 ∷ 0 ∷ 0 ∷ 0 ∷ 0 ∷ 52 ∷ 0 ∷ 32 ∷ 0 ∷ 1 ∷ 0 ∷ 0 ∷ 0 ∷ 0 ∷ 0 ∷ 0 ∷ []
 

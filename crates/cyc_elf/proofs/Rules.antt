@@ -54,7 +54,7 @@ own_rules-note file before h is =
     ap (λ (k : ℕ). cond (eqb k 3) (broken true Interp ∷ []) (cond (eqb k 1) (load_rules (length file) h) (cond (is_note file h) (note_rules file before h) []))) (described file h is).kind
     ∙ ap (λ b. cond b (note_rules file before h) []) is
 
--- A loadable header is not the header of a note.
+-- A program header of a loadable segment is not the header of a note.
 pub is_note-load : (file : List ℕ) (h : ProgramHeader) → is_load h ≡ true → is_note file h ≡ false
 unfolding is_note
 is_note-load file h load = ap (λ (k : ℕ). eqb k 4 && leb 20 h.file_size && leb (h.offset + h.file_size) (length file) && is_named file h.offset) (eqb-true _ _ load)
@@ -85,7 +85,8 @@ loads_push earlier h = filter-append is_load earlier (h ∷ []) ∙ taken (is_lo
     taken true = refl
     taken false = append-nil (loads earlier)
 
--- If one more header is put in front of a list of headers, the fault of the list depends on whether this header overlaps one of the others.
+-- If a header is put in front of a list of headers, the fault of the longer list depends on whether this header overlaps a header of the
+-- list.
 with_overlap : (any : Bool) (later : Bool) (found : Option ElfFault) → cond any (Some BadSegment) (outcome later found) ≡ outcome (not any && later) found
 with_overlap true later found = refl
 with_overlap false later found = refl
@@ -199,8 +200,8 @@ walk_note file (h ∷ rest) none =
 abbrev pub table_of : List ℕ → Walk
 table_of file = walk file None (program_headers file)
 
--- The first fault of a file is the first violated rule of the file header; if there is none, of the header table; and otherwise
--- of the entry address.
+-- The first fault of a file is the first fault of its file header, if there is one. If the file header has no fault, the file's
+-- first fault is that of the program header table or, if there is none, of the entry address.
 by_parts : (file : List ℕ) → first_fault (rules file) ≡ or_else (first_fault (file_rules file)) (or_else (outcome (are_apart [] (table_of file).loads) (table_of file).fault) (first_fault (entry_rules (program_headers file) (entry file))))
 by_parts file =
     ap first_fault (append_assoc (file_rules file) (table_rules file [] (program_headers file)) (entry_rules (program_headers file) (entry file)))

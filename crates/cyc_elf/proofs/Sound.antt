@@ -61,7 +61,7 @@ segment_from_kept file h kept = record {
 
 -- ---- a single note
 
--- If the test of the limits of a note succeeds, then the number of pages and the number of calls are in their ranges.
+-- If the test of the limits of a note succeeds, then the number of pages and the number of calls are in their allowed ranges.
 pub are_limits-true : (limits : ℕ × ℕ) → are_limits limits ≡ true → AreLimits limits
 are_limits-true limits e =
     let three = and_parts (leb 3 limits.0 && leb limits.0 65536 && leb 1 limits.1) (leb limits.1 4096) e in
@@ -151,7 +151,8 @@ none_from_apart file h (g ∷ hs) a apart in_h =
       | inr out ↦ let here : one (covers g a) ≡ 0 = ap one out in omega (arith, here, rest)
     ]
 
--- `AllPairs` of a list holds for the pairs of its first element with the others, and for the pairs of the other elements.
+-- If a relation holds for all pairs of elements of a list (`AllPairs`), it holds between the first element and each later
+-- element. Such a relation also holds for all pairs of elements after the first.
 AllPairs-first : {X : Type 0} (R : X → X → Type 0) (x : X) (xs : List X) → AllPairs R (x ∷ xs) → All (R x) xs
 AllPairs-first R x xs pairs = λ k d lt. pairs 0 (suc k) d (omega arith) (omega arith)
 

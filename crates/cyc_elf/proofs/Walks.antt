@@ -8,7 +8,7 @@ use Rattle.cyc_elf.specs.inside.Parts.{Walk, step, noted, walk}
 
 -- ---- one header at a time
 
--- Prepends the headers found so far to the result of the rest of the traversal.
+-- Prepends the loadable headers in `front` to the loadable headers that a traversal of the remaining program headers found.
 abbrev pub with_front : List ProgramHeader → Walk → Walk
 with_front front w = record { loads = front ++ w.loads; note = w.note; fault = w.fault }
 

@@ -27,8 +27,9 @@ bytes_end-at xs i offset x lt here =
     let split : drop i xs ≡ x ∷ drop (i + 1) xs = rw add-one (drop-cons xs i x lt ∙ rw (← here) refl) in
     ap (λ (ys : List Segment). bytes_end offset (map segment_contents ys)) split
 
--- Loop invariant of writing program headers: `rest` are those still to be written, their offsets fit 32 bits, and with the bytes
--- written so far they are all headers. If the numbers in `rest` fit their fields, so do those in all headers.
+-- Loop invariant of writing program headers: `rest` are the headers still to be written, and their offsets fit in 32 bits. The
+-- bytes written so far, followed by the bytes of `rest`, are `start` followed by the bytes of all headers. If the fields of the
+-- headers in `rest` fit in four bytes each, so do the fields of all headers.
 pub record IsAt (out start : List ℕ) (rest whole : List ProgramHeader) : Type 0 where
   pub fit : All (λ h. h.offset < 2 ^ 32) rest
   pub bytes : out ++ flat_map program_header rest ≡ start ++ flat_map program_header whole

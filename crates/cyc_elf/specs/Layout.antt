@@ -57,7 +57,8 @@ bytes_end offset (s ∷ rest) = bytes_end (offset + padded (length s.bytes)) res
 
 -- ---- the note, if there is one
 
--- Returns the program header (4) of a note at the given offset: a note has no address in memory, and is readable (4).
+-- Returns the program header of a note at the given file offset. The header's type is 4 (a note), it has no address
+-- in memory, and its flags are 4 (readable).
 abbrev pub note_header : ℕ → ProgramHeader
 note_header offset = record {
   kind = 4;

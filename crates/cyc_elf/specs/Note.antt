@@ -1,13 +1,13 @@
--- The note that stores the limits of an image's runs: the bytes of a program header of type 4 (`PT_NOTE`), in the form of the System V ABI,
--- chapter 5, "Note Section". The owner's name, the note's type and its description are this project's own choice.
+-- The note that stores the limits of an image's runs: the bytes to which a program header of type 4 (`PT_NOTE`) refers, in the form of the
+-- System V ABI, chapter 5, "Note Section". The owner's name, the note's type and its description are this project's own choice.
 use Rattle.std.specs.Prelude.{ℕ, ◌+◌, ◌≤◌, Bool, ◌&&◌, nat_le, nat_eq, ◌==◌, List, [], ◌∷◌, length, drop}
 use Rattle.std.specs.List.{starts_with}
 use Rattle.cyc_elf.specs.declared.note.TheConstants.{MIN_PAGES, MAX_PAGES, MIN_CALLS, MAX_CALLS}
 use Rattle.cyc_elf.specs.Header.{field, ProgramHeader}
 
--- The bytes of a note. A note begins with the size of the owner's name, the size of the description, and the type, of four bytes each.
--- The size fields and the type are followed by the name, "Cyclone" and a zero. The name is followed by the description: the maximal
--- number of pages of the store and of calls of a run, of four bytes each.
+-- The bytes of a note. A note begins with the size of the owner's name, the size of the description, and the note's type, of four
+-- bytes each. The size fields and the type are followed by the owner's name, "Cyclone" and a zero byte. The owner's name is followed
+-- by the description: the maximal number of the store's pages and the maximal number of a run's active calls, of four bytes each.
 abbrev pub note_name : List ℕ
 note_name = 67 ∷ 121 ∷ 99 ∷ 108 ∷ 111 ∷ 110 ∷ 101 ∷ 0 ∷ []
 
@@ -20,7 +20,7 @@ description_size = 8
 abbrev pub note_type : ℕ
 note_type = 1
 
--- The number of bytes of a note up to the end of the name, and the number of bytes of the whole note.
+-- The number of bytes of a note up to the end of the owner's name, and the number of bytes of the whole note.
 abbrev pub named_size : ℕ
 named_size = 20
 
@@ -40,7 +40,7 @@ limits_at file offset = (field 4 (offset + 20) file, field 4 (offset + 24) file)
 unfoldable pub is_note : List ℕ → ProgramHeader → Bool
 is_note file h = h.kind == 4 && nat_le named_size h.file_size && nat_le (h.offset + h.file_size) (length file) && is_named file h.offset
 
--- Says that the numbers of pages and calls are in their ranges, as a test and as a proposition.
+-- Says that the number of pages and the number of calls are in their allowed ranges, once as a test and once as a proposition.
 abbrev pub are_limits : ℕ × ℕ → Bool
 are_limits limits = nat_le MIN_PAGES limits.0 && nat_le limits.0 MAX_PAGES && nat_le MIN_CALLS limits.1 && nat_le limits.1 MAX_CALLS
 

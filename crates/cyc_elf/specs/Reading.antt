@@ -36,7 +36,7 @@ file_rules file =
     ∷ broken (nat_lt (length file) (table_offset file + program_header_size * header_count file)) faults.Truncated
     ∷ []
 
--- Recognizes the kinds of program headers that matter besides notes: `PT_LOAD` and `PT_INTERP`.
+-- Recognizes the types of program headers, other than notes, that the reader does not ignore: `PT_LOAD` and `PT_INTERP`.
 abbrev pub is_load : ProgramHeader → Bool
 is_load h = h.kind == 1
 
@@ -65,8 +65,8 @@ load_rules len h =
     ∷ broken (nat_lt len (h.offset + h.file_size)) faults.Truncated
     ∷ []
 
--- The rules of a note with limits: the note is complete, its description has two words, its type is 1, its limits are in range, and no
--- such note came before it.
+-- The rules of a note with limits: the note is complete, its description has eight bytes, its type is 1, its limits are in range, and
+-- no earlier note has limits.
 abbrev pub note_rules : List ℕ → (noted : Bool) → ProgramHeader → List Rule
 note_rules file noted h =
     broken (nat_lt h.file_size note_size) faults.BadSegment
@@ -77,7 +77,7 @@ note_rules file noted h =
     ∷ []
 
 -- The rules of a single program header, given whether a note with limits came before it. One rule is that the header requests no
--- interpreter. Headers of other kinds and other notes are ignored.
+-- interpreter. A header that is neither loadable, nor an interpreter request, nor a note with limits has no rules.
 unfoldable pub own_rules : List ℕ → (noted : Bool) → ProgramHeader → List Rule
 own_rules file noted h =
     if is_interpreter h
@@ -92,7 +92,7 @@ own_rules file noted h =
 abbrev pub overlap_rule : List ProgramHeader → ProgramHeader → Rule
 overlap_rule earlier h = broken (is_load h && list_any (overlap h) (loads earlier)) faults.BadSegment
 
--- The rules of a list of program headers, in order; each header is also checked against the headers before it.
+-- The rules of a list of program headers, in order; one rule of each header is about its overlap with the headers before it.
 abbrev pub table_rules : List ℕ → (earlier headers : List ProgramHeader) → List Rule
 table_rules file earlier [] = []
 table_rules file earlier (h ∷ rest) =

@@ -1,9 +1,9 @@
 //! Executable images: the reader and the writer of 32-bit, big-endian ELF files for MIPS.
 //!
 //! An [`Image`] is an entry address, the segments that a program starts with, and optionally the limits of its runs. [`write_image`] lays
-//! one out as a file. [`read_image`] reads a file's headers and segments, or reports the first fault. The format is that of the System V
-//! ABI, chapters 4 and 5; limits are in a note of this project's own. The reader ignores section and symbol tables and other notes, and the
-//! writer writes none.
+//! out an image as a file. [`read_image`] reads a file's headers and segments, or reports the first fault. The format is that of the System
+//! V ABI, chapters 4 and 5; limits are in a note of this project's own. The reader ignores section tables, symbol tables and notes without
+//! limits, and the writer writes none of them.
 #![tactic(auto)]
 
 mod fault;

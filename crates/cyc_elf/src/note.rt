@@ -12,10 +12,10 @@ pub const NAME: [u8; 8] = [b'C', b'y', b'c', b'l', b'o', b'n', b'e', 0];
 /// The size of the owner's name in bytes, with its terminating zero.
 pub const NAME_SIZE: u32 = 8;
 
-/// The size of a note's description in bytes: two words.
+/// The size of a note's description in bytes, which are two machine words.
 pub const DESCRIPTION_SIZE: u32 = 8;
 
-/// The type that distinguishes the note with limits from other notes of its owner.
+/// The type that distinguishes the note with limits from other notes of the owner "Cyclone".
 pub const NOTE_TYPE: u32 = 1;
 
 /// The number of bytes of a note up to the end of the owner's name.
@@ -36,7 +36,7 @@ pub const MIN_CALLS: u32 = 1;
 /// The greatest number of simultaneous calls that a note may specify.
 pub const MAX_CALLS: u32 = 4096;
 
-/// Returns true if the bytes at `start` begin like a note of the owner `NAME`.
+/// Returns true if the 12-byte ELF note header at `start` has the owner `NAME`'s name size, and the bytes after it begin with `NAME`.
 #[tactic(auto, unfolding(crate::specs::Note::is_named))]
 pub fn is_named(file: &[u8], start: usize) -> bool
     requires { start + named_size ≤ length file.now }
@@ -45,7 +45,7 @@ pub fn is_named(file: &[u8], start: usize) -> bool
     word_at(file, start) == NAME_SIZE && file[start + 12..].starts_with(&NAME)
 }
 
-/// Returns the numbers of pages and calls that the note at `start` specifies.
+/// Returns the maximal numbers of heap pages and of simultaneous calls that the ELF note at `start` states.
 #[tactic(auto, unfolding(crate::specs::Note::limits_at))]
 pub fn limits_at(file: &[u8], start: usize) -> (u32, u32)
     requires { start + note_size ≤ length file.now }
@@ -54,7 +54,7 @@ pub fn limits_at(file: &[u8], start: usize) -> (u32, u32)
     (word_at(file, start + 20), word_at(file, start + 24))
 }
 
-/// Returns true if the numbers of pages and calls are in their ranges.
+/// Returns true if the limits on heap pages and on simultaneous calls are in their allowed ranges.
 fn are_limits(limits: (u32, u32)) -> bool
     ensures { result ≡ are_limits limits }
 {
@@ -62,8 +62,8 @@ fn are_limits(limits: (u32, u32)) -> bool
     MIN_PAGES <= pages && pages <= MAX_PAGES && MIN_CALLS <= calls && calls <= MAX_CALLS
 }
 
-/// Returns true if the note of `size` bytes at `start` satisfies the rules of a note with limits on pages and calls. The rule
-/// that the note must be the first one is not checked.
+/// Returns true if the ELF note of `size` bytes at `start` satisfies the format rules of a note that limits heap pages and
+/// simultaneous calls. The function does not check the rule that this must be the first such note.
 pub fn keeps_rules(file: &[u8], start: usize, size: usize) -> bool
     requires { start + size ≤ length file.now }
     ensures { result ≡ (not (nat_lt size note_size) && (field 4 (start + 4) file.now == description_size)

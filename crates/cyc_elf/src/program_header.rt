@@ -72,7 +72,7 @@ impl ProgramHeader {
         }
     }
 
-    /// Returns the header of a note whose bytes begin at an offset in the file.
+    /// Returns the ELF program header for the note whose bytes begin at `offset` in the file.
     pub(crate) fn of_note(offset: u32) -> ProgramHeader
         ensures { fields_of result ≡ note_header offset }
     {
@@ -108,8 +108,8 @@ impl ProgramHeader {
         self.vaddr <= address && u64::from(address) < self.end()
     }
 
-    /// Returns true if the header describes a note with limits. A note of another owner is not a note with limits, nor is one whose bytes
-    /// are not in the file.
+    /// Returns true if the program header describes an ELF note that limits heap pages and simultaneous calls. A note of another owner is
+    /// not a note with such limits, nor is one whose bytes are not in the file.
     #[tactic(auto, unfolding(crate::specs::Note::is_note))]
     pub(crate) fn is_note(&self, file: &[u8]) -> bool
         ensures { result ≡ is_note file.now (fields_of self.now) }
@@ -134,7 +134,8 @@ impl ProgramHeader {
         None
     }
 
-    /// Returns the fault of the first rule that a single program header violates, given whether a note with limits came before it.
+    /// Returns the fault for the first rule that a single program header violates; `noted` tells whether a note with limits
+    /// precedes this header.
     #[tactic(auto, unfolding(crate::specs::Reading::own_rules, crate::specs::Note::is_note))]
     pub(crate) fn own_fault(&self, file: &[u8], noted: bool) -> Option<ElfFault>
         ensures { result ≡ first_fault (own_rules file.now noted (fields_of self.now)) }

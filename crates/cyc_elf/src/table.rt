@@ -16,8 +16,8 @@ use crate::note::limits_at;
 use crate::program_header::ProgramHeader;
 use std::alloc::{AllocError, Global};
 
-/// The result of traversing the headers: the loadable headers and the note's limits found before the first single header that violates
-/// a rule, and the fault of that header.
+/// The result of traversing the program headers up to the first one that by itself violates a rule. The result has the loadable
+/// headers and the note's limits found before this header, and the header's fault.
 #[derive(Drop)]
 pub struct Walk {
     pub loads: Vec<ProgramHeader>,
@@ -98,7 +98,7 @@ fn in_order(sorted: &[ProgramHeader]) -> bool
 
 /// Returns true if no two of the segments that program headers describe share an address.
 ///
-/// A table may have 65,535 headers, so the function sorts them instead of comparing all pairs.
+/// A table may have 65,535 program headers, so the function sorts them by address to find overlaps, instead of comparing all pairs.
 pub fn are_apart(alloc: Global, loads: &[ProgramHeader]) -> Result<bool, AllocError>
     ensures { IfOk result (λ apart. apart ≡ are_apart [] (map fields_of loads.now)) }
 {

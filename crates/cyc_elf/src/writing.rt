@@ -131,7 +131,7 @@ fn note_count(note: Option<(u32, u32)>) -> usize
     }
 }
 
-/// Appends the program header of a note whose bytes begin at `offset`, if the image has limits.
+/// If the image limits its pages and calls, appends the ELF program header of the note with these limits, whose bytes begin at `offset`.
 fn put_note_header(
     out: &mut Vec<u8>,
     note: Option<(u32, u32)>,
@@ -177,9 +177,9 @@ fn put_all_bytes(out: &mut Vec<u8>, segments: &[Segment]) -> Result<(), AllocErr
     Ok(())
 }
 
-/// Writes an image as a file: the file header, a program header for each segment, and the segments' bytes in order, each padded with zeros
-/// to whole words. If the image has limits, the program header of their note follows the other headers, and the note's bytes are last. The
-/// written file has no section headers.
+/// Writes an image as an ELF file: the file header, a program header for each segment, and the segments' bytes in order, padded with zeros
+/// to words. If the image limits its pages and calls, the program header of the note with these limits follows the segments' headers. The
+/// bytes of the note with the limits are the last bytes of the file. The written file has no section headers.
 ///
 /// The written file has 52 bytes, 32 for each segment, and each segment's bytes rounded up to words; the zeros past a segment's bytes
 /// are not written. Storing limits takes 60 bytes more.

@@ -47,13 +47,13 @@ pub counted_run : (count : ℕ) (u w : World) → Counted count u w → Run coun
 counted_run zero u w counted = counted
 counted_run (suc count) u w (mid, run, none, goes) = Run-more count u mid w run goes
 
--- If the machine has not ended, one more instruction extends the counted run by one.
+-- If a run of `count` instructions has not ended the machine, one more instruction makes it a run of `count` + 1 instructions.
 counted_more : (count : ℕ) (u v w : World) → Counted count u v → v.machine.phase ≡ Running → Goes v w → Counted (count + 1) u w
 counted_more count u v w counted running goes =
     subst (λ k. Counted k u w) (let one : suc count ≡ count + 1 = omega arith in one) (v, counted_run count u v counted, ap end_in running, goes)
 
--- `Way` says that `count` instructions lead from one state of machine and devices to another. The
--- `peaks`, if they are counted, are the peaks of calls and pages on this way.
+-- `Way` says that `count` instructions lead from one state of machine and devices to another. If `peaks` is given, it contains the maximal
+-- numbers of active calls and used pages during these instructions.
 abbrev pub Way : (peaks : Option Peaks) → ℕ → World → World → Type 0
 Way peaks count u v = Counted count u v × IfSome peaks (HasPeaks count u v)
 
@@ -92,8 +92,8 @@ end_seen (Some reported) None c xs h e k = absurd h
 end_seen (Some reported) (Some left) None xs h e k = absurd k
 end_seen (Some reported) (Some left) (Some more) xs h e k = k ∙ e
 
--- One more iteration of the engine's loop keeps `Progress`, by cases of the event that the instruction reports, such as a requested or
--- printed byte.
+-- One more iteration of the engine's loop preserves the invariant `Progress`. The proof is by cases of the event that the instruction
+-- reports, such as a requested or printed byte.
 
 -- An instruction that uses no device, or only the writer, keeps `Progress`.
 quiet : (start : List ℕ → World) (old now new : Devices) (count : ℕ) (x x' : Exchanged) (peaks : Option Peaks) (machine machine' : State) (event : Event) (s : State) (more : List ℕ)
@@ -201,8 +201,8 @@ Progress-turn start old now new count x x' peaks machine machine' p (Puts byte, 
 Progress-turn start old now new count x x' peaks machine machine' p (Ended end, s, step, none) = absurd none
 Progress-turn start old now new count x x' peaks machine machine' p (NoMemory, s, step, none) = absurd none
 
--- If no peaks are counted, the exchanges of bytes with the devices between two iterations of the loop have the
--- effects that `WentOn` describes.
+-- If the maximal numbers of calls and pages are not counted, byte input and output between two iterations of
+-- the loop have the effects that `WentOn` describes.
 
 -- Returns the observable state of the reader and the writer during a run.
 abbrev pub devices_of : Traffic → Devices
@@ -255,7 +255,7 @@ Progress-ahead start old count more machine machine' before after p runs =
 
 -- The result of the engine's loop, computed from `Progress`.
 
--- Returns the remaining input of the reader, if its bytes are known, otherwise no input.
+-- Returns the bytes that the reader can still supply, or the empty list if these bytes are not known.
 rest_of : Option (List ℕ) → Option (List ℕ) → List ℕ
 rest_of None now = []
 rest_of (Some reported) now = unwrap_or now []

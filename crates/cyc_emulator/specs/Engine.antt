@@ -85,8 +85,8 @@ abbrev pub Stops : Stop → (budget count : ℕ) → World → Type 0
 Stops (stops.End end) budget count w = end_of w ≡ Some end
 Stops stops.Spent budget count w = (end_of w ≡ None) × (count ≡ budget)
 
--- Returns the limit that a run reached when it ended with `Full`, determined by the last system call. `EndFull` means that the stack
--- had no space for a call; any other system call is one of the store, and means that the store had too few pages.
+-- Returns the limit (on calls or on pages) that a run reached when it ended with `Full`, determined by the last system call. `EndFull`
+-- means that the stack had no space for a call. Any other system call is one of the store, and means that the store had too few pages.
 abbrev pub limit_at : Stop → Core → Option Limit
 limit_at (stops.End ends.Full) core = if register core SERVICE == END_FULL then Some Calls else Some Pages
 limit_at stop core = None
@@ -95,9 +95,9 @@ limit_at stop core = None
 abbrev pub StandsAt : Report → World → Type 0
 StandsAt report w = (report.counter ≡ w.machine.core.counter) × (report.limit ≡ limit_at report.stop w.machine.core)
 
--- `IsReported` says that a report is right for a run from this start state. The report contains the number of instructions, within the
--- budget, and how and where the run stopped. The report also contains the numbers of bytes read and printed, and the peaks of calls and
--- pages if they were counted. All parts of the report describe the same run.
+-- `IsReported` says that a report is right for a run from this start state. The report contains the number of executed instructions,
+-- which is at most the budget, and how and where the run stopped. The report also contains the numbers of bytes read and printed and,
+-- if they were counted, the maximal numbers of active calls and used pages. All fields of the report describe the same run.
 pub record IsReported (start : List ℕ → World) (budget : ℕ) (old new : Devices) (report : Report) : Type 0 where
   pub world : World
   pub executes : Executes start old new report.count world

@@ -57,7 +57,7 @@ pub struct Trail {
     pub address: u32,
     /// The addresses of the jumps that made the active calls, innermost first, except that of `main`; at most 32.
     pub calls: Vec<u32>,
-    /// The number of active calls beyond those listed.
+    /// The number of active calls that are missing in the list `calls`, which has only the innermost ones.
     pub others: u32,
 }
 

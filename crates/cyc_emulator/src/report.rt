@@ -21,7 +21,7 @@ pub enum Stop {
 pub enum Limit {
     /// The limit of calls: the stack had no space for one more call, so the program ended the run.
     Calls,
-    /// The limit of pages: the store had too few pages for a request.
+    /// The run reached its limit on heap pages: the store had too few pages for a request.
     Pages,
 }
 
@@ -47,12 +47,12 @@ pub struct Report {
     pub read: u64,
     /// The number of bytes that the program printed.
     pub written: u64,
-    /// The peaks of calls and of pages in use, if they were counted.
+    /// The maximal numbers of active calls and of pages in use during the run, if they were counted.
     pub peaks: Option<Peaks>,
 }
 
-/// The reason for which an image was not run to a stop, or not listed. Lack of memory is `Memory`, wherever it occurs; a listing returns
-/// neither `Load` nor `Read`.
+/// The reason why an image was not run until it stops, or why its instructions were not listed. Lack of memory is reported as `Memory`,
+/// wherever it occurs. A listing of an image's instructions never fails with `Load` or `Read`.
 #[derive(Clone, Copy, Debug, PartialEq, Eq, Error)]
 pub enum RunFault {
     /// The bytes are not a valid image.

@@ -5,8 +5,8 @@ use cyc_explain_texts::teller::Teller;
 use cyc_scope::Scope;
 use cyc_syntax::Expr;
 
-/// Computes the type of an expression and records it for the explanation. Returns true if the checker could find the type of the
-/// expression in spite of the fault. `is_looked_at` tells if the value is only examined or also used.
+/// Computes the type of an expression and records it for the explanation. Returns true if the checker could find the type of the expression
+/// in spite of the fault. `is_looked_at` tells if the expression's value is only examined (a read that moves no unique pointer) or used.
 pub(crate) fn find(
     teller: &mut Teller,
     scope: &mut Scope<'_>,

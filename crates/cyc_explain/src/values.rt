@@ -1,4 +1,4 @@
-//! This file explains values that may not be used for their purpose, such as an assignment or an argument.
+//! This file explains why a value may not be used in its role, such as assigned value or call argument.
 use crate::calls::explain_call;
 use crate::statements::{result_type, type_here};
 use crate::types::find;
@@ -35,7 +35,7 @@ fn type_wanted(scope: &mut Scope<'_>, role: &Role<'_>, found: Given<'_>) -> Opti
     }
 }
 
-/// Explains a value that may not be used for its purpose, such as an assignment or an argument.
+/// Explains why the value of an expression may not be used in the given role, such as assigned value or call argument.
 pub(crate) fn explain_value(
     teller: &mut Teller,
     scope: &mut Scope<'_>,

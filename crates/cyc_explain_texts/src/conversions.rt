@@ -257,8 +257,8 @@ fn is_named(homes: &Homes, region: Region) -> bool {
     }
 }
 
-/// Returns the advice about a value whose type differs from the required type, chosen by the first and, if there is one, the
-/// second message.
+/// Returns the message with advice about a value whose type differs from the required type. The advice is chosen by the
+/// messages that explain the difference: the first message `lead` and, if there is one, the second message `more`.
 fn better(notes: &Notes, lead: Message, more: Message) -> Message {
     match more {
         Message::OtherRegions | Message::OtherTarget => better_on_regions(notes, lead, more),

@@ -79,7 +79,8 @@ pub enum Form<'b> {
 pub struct Forms<'b> {
     /// The syntactic forms that still have to be split into their components; the next form to split is the last.
     pending: Vec<Form<'b>>,
-    /// The syntactic forms that were already split: each form precedes its components, and the components are listed from last to first.
+    /// The syntactic forms (declarations, statements, expressions) that were already split into their components. In this list each form
+    /// precedes its components, and the components are listed from last to first.
     pub listed: Vec<Form<'b>>,
     /// True if memory never ran out while the list was built, so that it lacks no declaration, statement or expression.
     pub is_whole: bool,
@@ -102,7 +103,8 @@ pub fn forms_of<'b>(alloc: Global, body: &'b Block) -> Forms<'b> {
 }
 
 impl<'b> Forms<'b> {
-    /// Moves the next syntactic form to be split, if there is one, to the list, and adds its components to the forms to be split.
+    /// Moves the next pending syntactic form, if there is one, to the list of the forms that are already split. Adds the form's
+    /// components to the pending forms.
     fn take_next(&mut self) -> bool {
         match self.pending.pop() {
             Some(form) => {

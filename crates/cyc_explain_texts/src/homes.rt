@@ -27,8 +27,8 @@ pub struct Home {
     pub origin: Origin,
 }
 
-/// The constructs from which the regions of a function come, for the regions declared before the fault, in the order of the regions'
-/// numbers.
+/// For each region of a function that is declared before the fault, the construct that introduces this region. The list is in the
+/// order of the regions' indices.
 #[derive(Drop)]
 pub struct Homes {
     pub all: Vec<Home>,

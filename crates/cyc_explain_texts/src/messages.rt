@@ -176,7 +176,7 @@ pub enum Message {
     OpenBefore,
     OpenAgain,
     NotLive,
-    // Messages about regions that do not outlive others.
+    // Messages about a region that must outlive another region but does not.
     NotOutlived,
     FirstBeginning,
     NextBeginning,

@@ -74,7 +74,8 @@ impl Teller {
         }
     }
 
-    /// Returns the explanation that the teller has written, if there is one, and removes it from the teller.
+    /// Returns the explanation that the `Teller` has written and removes it from the `Teller`. The result is
+    /// `None` if nothing was written, or if memory ran out.
     pub fn take_words(&mut self) -> Option<Explanation> {
         let is_known = self.notes.lexicon.is_whole && self.notes.homes.is_whole;
         let is_said = self.words.is_whole && !self.words.bytes.is_empty();

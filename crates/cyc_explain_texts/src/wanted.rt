@@ -13,7 +13,7 @@ use cyc_words::{Code, Span};
 
 #[derive(Clone, Copy)]
 pub enum Wanted {
-    /// No requirement is put on the value, or only one that depends on other values or types too.
+    /// The value has no requirement of its own: either there is none, or the requirement also depends on other values or types.
     Nothing,
     /// The value must have a type, because it initialises a new object.
     Content,

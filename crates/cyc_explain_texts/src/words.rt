@@ -47,7 +47,7 @@ pub struct Notes {
     /// Two regions of the current function, and two regions of the called function.
     pub regions: (Region, Region),
     pub their_regions: (Region, Region),
-    /// For a message that mentions both, how many of something (such as arguments) are required, and how many were found.
+    /// The required count and the found count of something (such as arguments), for a message that states both counts.
     pub counts: (usize, usize),
 }
 

@@ -22,7 +22,7 @@ use Rattle.cyc_expressions.proofs.Chains.{further, next_further}
 -- ---- postfixes, and the use of the cell that they lead to
 
 module _ {A : Type 0} (next : Place → Reached → Rule A) where
-  -- the result for the postfixes (such as `[i]` and `->f`) after a base expression
+  -- the result of checking the postfixes (such as `[i]` and `->f`) that follow a base expression
   abbrev pub following_base : Scope → Expression → List Postfix → Checked A
   following_base g e ps = run (Part (rule_postfixed g (place_of e) (rule_looked g e (rule g e)) (postfixes_of ps)) (next (place_of e)))
 

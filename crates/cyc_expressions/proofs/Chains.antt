@@ -90,12 +90,12 @@ then_all_view (operation.Test o e ∷ os) = ap (typed.ThenTest o (view.view_expr
 then_all_view (operation.Pointer o e ∷ os) = ap (typed.ThenPointer o (view.view_expression e)) (then_all_view os)
 then_all_view (operation.PointerPeek n o e ∷ os) = ap (typed.ThenPointerPeek n o (view.view_expression e)) (then_all_view os)
 
--- at the end of a chain such as `a + b - c`, the result is that of the typing rule for a chain without further operations
+-- at the end of a chain such as `a + b - c`, the result is that of the typing rule for a chain with no operations left
 pub chain_ends : (g : Scope) (p : Place) (k : Option ℕ) (left : ValueType) (xs : List Operation) (zs : List OperationCode) (whole : Checked (typed.Operations × Ty)) → zs ≡ []
     → after_operations xs (run (rule_chain g p k left (operations_of zs))) ≡ whole → whole ≡ after_operations xs (run (rule_chain g p k left (operations_of [])))
 chain_ends g p k left xs zs whole is so_far = sym so_far ∙ ap (λ vs. after_operations xs (run (rule_chain g p k left (operations_of vs)))) is
 
--- at the end of a chain such as `a + b - c`, the type of the chain is the type of the operations checked so far
+-- at the end of a chain such as `a + b - c`, the chain's type is the type found by checking its operations so far
 pub chain_whole : (xs : List Operation) (known : Option Fault) (t u : Ty) → unless known t ≡ Ok u → after_operations xs (unless known (typed.NoOperations, t)) ≡ Ok (view.operations_of xs, u)
 chain_whole xs None t u h = ap (λ os. Ok (os, t)) (then_all_view xs) ∙ ap (λ v. Ok (view.operations_of xs, v)) (from_ok t u h)
 chain_whole xs (Some f) t u h = absurd (cc)

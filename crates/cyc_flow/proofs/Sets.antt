@@ -1,4 +1,4 @@
--- Sets of numbers, represented by the bits of a list of words.
+-- Sets of natural numbers, represented as bit sets: one bit of a list of 64-bit words tells whether a number is in the set.
 use Rattle.std.proofs.Common.{◌≡◌, ◌≢◌, ℕ, zero, suc, ◌+◌, ◌/◌, ◌%◌, ◌<◌, ◌≤◌, min, max, Bool, true, false, ◌==◌, ◌||◌, List, [], ◌∷◌, ◌++◌, length, take, drop, replicate, get_or, set, refl, sym, ap, subst, ◌∙◌, arith, inl, inr}
 use Rattle.std.specs.Prelude.{bit_or}
 use Rattle.std.specs.Int.{bit_at}
@@ -68,7 +68,7 @@ changed_all f xs whole ws i n d e k =
     let none : min (length (drop n xs)) (length (drop n ws)) ≡ 0 = omega (arith, length-drop n xs, length-drop n ws, e) in
     sym (taken_and_rest n xs) ∙ ap (λ ys. take n xs ++ ys) (sym (none_changes f (drop n xs) (drop n ws) none)) ∙ h
 
--- The loop invariant `Changed` is kept when one more element is changed.
+-- The loop invariant `Changed` still holds after the loop has changed the next element of the list by the word at the same index.
 changed_next : {X : Type 0} (f : X → ℕ → X) (xs whole : List X) (ws : List ℕ) (i : ℕ) (x : X) (w : ℕ) → i < length xs → i < length ws → x ≡ get_or xs i x → w ≡ get_or ws i w
     → Changed f xs ws i whole → Changed f (set xs i (f x w)) ws (suc i) whole
 changed_next f [] whole ws i x w below less read found h = absurd (omega (arith, below))
@@ -143,7 +143,7 @@ module _ (vs ws : List ℕ) (m v w : ℕ) (same_bits : (n : ℕ) → has_number 
     | inr there ↦ ap (λ (u : ℕ). has_bit u (n % 64)) (get_or-set_other vs (m / 64) (n / 64) w 0 there)
   ]
 
-  -- Setting the bit of a number leaves the bits of all other numbers unchanged.
+  -- Setting the bit of one number in a bit set does not change whether any other number is in the set.
   pub has_inserted : (n : ℕ) → has_number (set vs (m / 64) w) n ≡ ((n == m) || has_number ws n)
   has_inserted n = elim (eqb_tells n m) [
     | inl same_number ↦

@@ -20,7 +20,7 @@ each_known : {X : Type 0} (view : X → Ty) (a : Fullness) (ts : List X) → rep
 each_known view a [] = refl
 each_known view a (t ∷ ts) = ap (λ as'. a ∷ as') (each_known view a ts)
 
--- At the start of a function, the first locals (its parameters) are full, and the others are empty.
+-- At the start of a function, its parameters, which are its first locals, are full (hold a value). All other locals are empty.
 pub start_known : {X : Type 0} (view : X → Ty) (ts us : List X) (n m : ℕ) → n ≡ length ts → m ≡ length us → (start filled : List Fullness)
     → start ≡ replicate (n + m) Vacant → filled ≡ replicate n Full ++ drop n start
     → filled ≡ each_is Full (map view ts) ++ each_is Vacant (map view us)

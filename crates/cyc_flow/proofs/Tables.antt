@@ -60,7 +60,7 @@ as_full_below (suc n) f g each = both (is_as_full (f 0) (g 0)) (each 0 (omega ar
     both true h k = k
     both false h k = absurd (let e : false ≡ true = h in cc)
 
--- Two states with different numbers of locals are never comparable.
+-- The comparison `are_as_full` is false for two flow states with different numbers of locals.
 pub unequal : (xs ys : List Fullness) → (length xs ≡ length ys → ⊥) → are_as_full xs ys ≡ false
 unequal [] [] n = absurd (n refl)
 unequal [] (y ∷ ys) n = refl
@@ -312,7 +312,7 @@ length_known t n e = length-each_below (table_length t) (known_at t.marks.items)
 
 -- ---- emptied locals
 
--- Returns the state of a local: empty if the condition holds and the local is not lent, otherwise unchanged.
+-- Returns the new flow state of a local: empty if the given flag is true and the local is not lent, otherwise the old state.
 abbrev emptied_if : Bool → Fullness → Fullness
 emptied_if true a = if is_locked a then a else Vacant
 emptied_if false a = a

@@ -22,7 +22,8 @@ restored : (f : State) (n : ℕ) (a : Fullness) → with_fullness (fullness f n)
 restored Unreached n a = refl
 restored (Reached as') n a = ap Reached (set_twice as' n a (get_or as' n Vacant) ∙ set-get_or as' n Vacant)
 
--- If a change of a local is recorded with the local's earlier state, undoing the changes yields the same initial state.
+-- If a change of a local is recorded with the local's earlier state, undoing all recorded changes yields the same flow
+-- state as without this change.
 pub noted_begun : (cs : List Change) (c : Change) (f : State) (a : Fullness) → view_fullness c.before ≡ fullness f c.number → undone (cs ++ c ∷ []) (with_fullness a f c.number) ≡ undone cs f
 noted_begun cs c f a e =
     undone_append cs (c ∷ []) (with_fullness a f c.number)

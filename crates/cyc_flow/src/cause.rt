@@ -19,7 +19,7 @@ pub enum Change {
     Peeked,
 }
 
-/// A change of a local, and the source position of the local's name in this change.
+/// A change of a local's flow state, and the source position at which the local's name occurs in the changing code.
 #[derive(Clone, Copy)]
 pub struct Cause {
     pub change: Change,

@@ -63,7 +63,8 @@ impl Walk {
 
     // ---- effects on the local
 
-    /// Visits a use of the local whose name is at this source position. The search ends there if this is the position of the fault.
+    /// Visits a use of the local whose name is at this source position. If this is the position of the fault, the search for the
+    /// fault's cause ends with this use.
     fn name(&self, span: Span, number: usize, known: Known) -> Result<(), Found> {
         if number == self.number && is_at(span, self.fault) {
             return Err(Found(known.cause().or(self.waiting)));

@@ -50,7 +50,7 @@ impl Fullness {
     }
 }
 
-/// A change of a local, recorded with the local's state before the change.
+/// A change of a local's flow state, recorded as the local's index and its state before the change.
 #[derive(Clone, Copy)]
 pub(crate) struct Change {
     pub(crate) number: usize,
@@ -138,7 +138,8 @@ impl State {
         }
     }
 
-    /// Returns the first local that is emptier in this flow state than in the other one, or 0 if there is none; only diagnostics use it.
+    /// Returns the index of the first local that is emptier in this flow state than in the flow state `other`, or 0 if none is. Only
+    /// diagnostics use this function.
     pub(crate) fn first_emptier(&self, other: &State) -> usize {
         let (State::Reached(here), State::Reached(there)) = (self, other) else {
             return 0;

@@ -48,7 +48,7 @@ fn convert(alloc: Global, value: &Converted, tracked: Tracked) -> Result<Tracked
     Ok(evaluation.end())
 }
 
-/// Checks the returned value, if there is one.
+/// Checks the flow of the expression whose value a `return` returns, if there is one.
 fn return_value(alloc: Global, value: &Option<Converted>, tracked: Tracked) -> Result<Tracked, Stop>
     ensures { Gives result (run (rule_value (option_map view_converted value.now) (view_state tracked.state)))
         (touched_value (option_map view_converted value.now) tracked.touched.numbers.list) }
@@ -59,7 +59,7 @@ fn return_value(alloc: Global, value: &Option<Converted>, tracked: Tracked) -> R
     }
 }
 
-/// Checks the int of a thrown exception, if there is one.
+/// Checks the flow of the int expression that a `throw` passes with its exception, if there is one.
 fn throw_value(alloc: Global, value: &Option<Expr>, tracked: Tracked) -> Result<Tracked, Stop>
     ensures { Gives result (run (rule_thrown (option_map view_expression value.now) (view_state tracked.state)))
         (touched_thrown (option_map view_expression value.now) tracked.touched.numbers.list) }

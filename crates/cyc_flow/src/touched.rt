@@ -30,7 +30,8 @@ fn insert(words: &mut Vec<u64>, number: usize) -> Result<(), AllocError>
     Ok(())
 }
 
-/// Returns the bits that are set in either list of words, up to the length of the first list.
+/// Returns the union of two bit sets, given as lists of words. Each word of the first list gets the bits of the second list's word at the
+/// same index. Words of the second list beyond the length of the first list are ignored.
 #[tactic(auto, using(crate::proofs::Sets::changed_more))]
 fn either_each(mut one: Vec<u64>, other: &[u64]) -> Vec<u64>
     ensures { result.items ≡ with_words bit_or one.items other.now }

@@ -10,7 +10,7 @@ use Rattle.cyc_syntax.specs.TokenRule.{LiesIn}
 use Rattle.cyc_syntax.proofs.PieceLemmas.{one_piece}
 use Rattle.cyc_format.specs.Formatted.{kinds_of}
 
--- Returns the token kind of a piece of text if the piece is a token, otherwise the default kind.
+-- Returns the token kind of a piece of text if the piece is a token, otherwise the given kind `other`.
 kind_in : Kind → Piece → Kind
 kind_in other (Lexeme k) = k
 kind_in other _ = other
@@ -43,7 +43,7 @@ module _ (text other : List ℕ) where
       let rest = same_kinds ts us (All-tail (LiesIn text) t ts lie) (All-tail (LiesIn other) u us also) (ap (drop 1) alike) in
       ap (λ (k : Kind). k ∷ kinds_of (map (token_of other) us)) here ∙ ap (λ (ks : List Kind). kind_of (spelling_of text t) t.kind ∷ ks) rest
 
--- If the next tokens of two texts have equal spellings, the lists of tokens that are extended by them have equal spellings too.
+-- If the first `i` tokens of two texts have equal spellings, and the next tokens too, then the first `i` + 1 tokens have equal spellings.
 pub one_token_more : (text other : List ℕ) (ts us : List CodeToken) (i : ℕ) (d e : CodeToken) → i < length ts → i < length us
     → map (spelling_of text) (take i ts) ≡ map (spelling_of other) (take i us)
     → spelling_of text (get_or ts i d) ≡ spelling_of other (get_or us i e)

@@ -80,7 +80,7 @@ impl<'t> Layout<'t> {
         }
     }
 
-    /// Ends a statement whose end is missing in the text, so that the lines after it are kept.
+    /// Ends a statement whose end is missing in the text, so that the statements after it still begin on lines of their own.
     fn recover(&mut self, number: usize, kind: Option<TokenKind>) {
         if is_starter(kind) && self.frames.is_within() {
             self.frames.close_within();

@@ -10,7 +10,7 @@ use cyc_syntax::Token;
 use cyc_words::{Code, Fault};
 use std::alloc::Global;
 
-/// The most rounds of formatting in the search for a layout that formatting leaves unchanged.
+/// The maximal number of times that the formatter formats a text again to find a layout that formatting leaves unchanged.
 const MOST_ROUNDS: usize = 4;
 
 /// Returns a layout of a text with these tokens that formatting leaves unchanged, or the text itself if none is found. Returns `None` if

@@ -52,7 +52,7 @@ impl FrameKind {
         )
     }
 
-    /// Returns true if a construct of this kind is part of a statement, such as a bracket.
+    /// Returns true if a construct of this kind (such as brackets or parentheses) is part of a statement.
     pub(crate) fn is_within(self) -> bool {
         self.is_parenthesis()
             || matches!(
@@ -103,7 +103,7 @@ impl Frame {
 #[derive(Drop)]
 pub(crate) struct Frames {
     all: Vec<Frame>,
-    /// True if memory has not run out, so that all open constructs are listed.
+    /// True if memory has not run out, so that the list of open constructs is complete.
     pub(crate) is_whole: bool,
 }
 
@@ -139,7 +139,7 @@ impl Frames {
         }
     }
 
-    /// Returns true if the innermost open construct is part of a statement, such as a bracket.
+    /// Returns true if the innermost open construct is part of a statement, as brackets or parentheses are.
     pub(crate) fn is_within(&self) -> bool {
         match self.last() {
             Some(frame) => frame.kind.is_within(),
@@ -174,7 +174,7 @@ impl Frames {
         }
     }
 
-    /// Closes the open constructs that are parts of a statement, such as brackets.
+    /// Closes the open constructs that are parts of a statement, such as brackets and parentheses.
     pub(crate) fn close_within(&mut self) {
         for _ in 0..self.all.len() {
             if !self.is_within() {

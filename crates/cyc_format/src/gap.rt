@@ -24,7 +24,7 @@ pub(crate) struct Gap {
     pub(crate) lines: usize,
     /// True if the gap contains a line end outside comments.
     pub(crate) has_line_end: bool,
-    /// True if memory has not run out, so that all comments of the gap are listed.
+    /// True if memory has not run out, so that the list of the gap's comments is complete.
     pub(crate) is_whole: bool,
 }
 

@@ -90,7 +90,7 @@ impl Sheet {
         self.put_spaces(level.min(DEEPEST).saturating_mul(STEP));
     }
 
-    /// Writes a comment. If the column of the comment changes, its further lines are moved by the same number of columns.
+    /// Writes a comment. If the comment's first line moves to another column, its following lines are moved by the same number of columns.
     pub(crate) fn put_comment(&mut self, text: &[u8], comment: Comment) {
         let bytes = text.get(comment.start..comment.end).unwrap_or(&[]);
         let (from, to) = (comment.column, self.column);
@@ -106,7 +106,7 @@ impl Sheet {
         }
     }
 
-    /// Writes a further line of a comment that was moved from the column `from` to the column `to`.
+    /// Writes a line, other than the first, of a comment that was moved from the column `from` to the column `to`.
     fn put_moved(&mut self, line: &[u8], from: usize, to: usize) {
         if from == to || line.is_empty() {
             self.put(line);

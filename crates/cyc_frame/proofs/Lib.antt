@@ -1,2 +1,2 @@
--- the proof that the frames are correct and that the reported function is the first whose frame is too large
+-- the proof that the stack frames are correct and that a reported function is the first one whose frame has too many words
 pub mod Sound

@@ -1,4 +1,5 @@
--- The frames that layout returns are correct. If layout reports a function, it is the first whose frame is too large.
+-- The stack frames that `layout` returns are correct. If `layout` reports a function, it is the first one whose frame
+-- has more than `MOST_FRAME_WORDS` words.
 use Rattle.std.proofs.Common.{◌≡◌, ℕ, zero, suc, ◌+◌, ◌<◌, ◌≤◌, Bool, false, List, [], ◌∷◌, ◌++◌, length, map, Some, None, Result, Ok, Err, refl, sym, ap, subst, ◌∙◌, arith, inl, inr}
 use Rattle.std.specs.Prelude.{if◌then◌else◌, slice_index_or, slice_set, true, ◌⊎◌, Option}
 use Rattle.std.proofs.lemmas.Bool.{cases_eq, cases_lt, lt-ltb}
@@ -26,12 +27,12 @@ use Rattle.cyc_frame.specs.inside.Layout.{AllReturn, AreFirstFrames, AreFrames, 
 abbrev count_at : List Routine → ℕ → ℕ
 count_at routines k = (slice_index_or routines k no_routine).frame_count
 
--- `IsFirst` says that the function at this index is the first whose frame is too large.
+-- `IsFirst` says that the function at this index is the first whose stack frame has more than `MOST_FRAME_WORDS` words.
 abbrev IsFirst : List Routine → ℕ → Type 0
 IsFirst routines k =
     (k < length routines) × (MOST_FRAME_WORDS < count_at routines k) × ((j : ℕ) → j < k → count_at routines j ≤ MOST_FRAME_WORDS)
 
--- `Found` describes the result of the search for the first function whose frame is too large.
+-- `Found` describes the result of the search for the first function whose stack frame has more than `MOST_FRAME_WORDS` words.
 abbrev Found : List Routine → Option Span → Type 0
 Found routines None = (k : ℕ) → k < length routines → count_at routines k ≤ MOST_FRAME_WORDS
 Found routines (Some place) = (k : ℕ) × IsFirst routines k × ((slice_index_or routines k no_routine).name ≡ place)
@@ -80,14 +81,15 @@ some_large program place fault some code line column =
       column = column ∙ sym (ap (λ (s : Span). s.column) name);
     }
 
--- If all frames of a program are within the limit, no function's frame is too large.
+-- A program in which each stack frame is within the limit `MOST_FRAME_WORDS` has no fault `IsTooLarge`, which reports a function with a
+-- larger frame.
 pub not_small_and_large : (program : Program) (fault : Fault) → HasSmallFrames program → IsTooLarge program fault → ⊥
 not_small_and_large program fault small large = omega (arith, small large.function large.is_function, large.large)
 
 same_fault : (f g : Fault) → f.code ≡ g.code → f.line ≡ g.line → f.column ≡ g.column → f ≡ g
 same_fault f g code line column = λ i. record { code = code i; line = line i; column = column i }
 
--- A program has at most one fault for the first function whose frame is too large.
+-- If two faults both report the first function of a program whose stack frame is too large, then the faults are equal.
 pub one_first : (program : Program) (f g : Fault) → IsTooLarge program f → IsTooLarge program g → f ≡ g
 one_first program f g a b = elim (cases_lt a.function b.function) [
   | inl before ↦ absurd (omega (arith, b.first a.function before, a.large))
@@ -113,7 +115,7 @@ frame_last : (frames : List Frame) (frame : Frame) → frame_at (frames ++ frame
 frame_last [] frame = refl
 frame_last (f ∷ frames) frame = frame_last frames frame
 
--- The frame listed for a function is found independently of the default frame.
+-- If a function has a frame in the list of frames, the look-up of this frame gives the same result with any default frame.
 pub frame_there : (frames : List Frame) (k : ℕ) (other : Frame) → k < length frames → slice_index_or frames k other ≡ frame_at frames k
 frame_there [] k other below = absurd (omega arith)
 frame_there (f ∷ frames) zero other below = refl

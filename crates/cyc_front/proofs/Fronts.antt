@@ -21,7 +21,8 @@ use Rattle.cyc_front.specs.declared.front.Phases.{Phases}
 use Rattle.cyc_front.specs.Front.{names_in, IsAcceptedText, IsStoppedText, IsRefusedText, HasFault}
 use Rattle.cyc_front.specs.inside.Phases.{HasTree}
 
--- Says that a phase of the front end passed the result a: a is accepted, no other result is accepted, and there is no fault.
+-- Says that a phase of the front end (such as the parser) succeeded with the result `a`. The specification of the phase
+-- accepts `a`, accepts no other result, and allows no fault.
 pub record Passes {A : Type 0} (Accepted : A → Type 0) (Has : Fault → Type 0) (a : A) : Type 0 where
   pub is : Accepted a
   pub only : (b : A) → Accepted b → a ≡ b
@@ -44,7 +45,7 @@ Parsed OfGrammar text tokens tree = Passes (parser.IsAccepted tokens) (OfGrammar
 abbrev pub Checked : List Token → List Declaration → Program → Type 0
 Checked tokens tree p = Passes (IsTypedProgram (names_in tokens) tree) (IsRefusedProgram (names_in tokens) tree) p
 
--- If the lexer passed the tokens of a list, it also passed the tokens of any list that equals this one.
+-- If the lexer accepts a text with the tokens of a list, it also accepts the text with the tokens of an equal list.
 pub lexed : (text : List ℕ) (ts us : List TokenCode) → us ≡ ts → Lexed text (map (token_of text) ts) → Lexed text (map (token_of text) us)
 lexed text ts us same l = subst (λ x. Lexed text (map (token_of text) x)) (sym same) l
 
@@ -91,7 +92,8 @@ faulty_here OfGrammar text tokens tree l r f (inr (inr (inr (ts, d, p, has, of, 
 
 -- ---- a phase that rejects the text
 
--- Says that a phase rejected the text: no result is accepted unless memory ran out, and there is no other fault.
+-- Says that a phase of the front end rejected the text with the fault `f`. Unless `f` is lack of memory, the
+-- specification of the phase accepts no result and allows no fault other than `f`.
 pub record Stops {A : Type 0} (Accepted : A → Type 0) (Has : Fault → Type 0) (f : Fault) : Type 0 where
   pub none : (a : A) → Accepted a → f ≡ memory_fault
   pub no_other : (g : Fault) → Has g → (f ≡ memory_fault) ⊎ (f ≡ g)

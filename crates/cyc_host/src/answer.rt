@@ -12,13 +12,13 @@ use std::fmt;
 /// The outcome of a command of the program. `Display` writes the last line on standard error.
 #[derive(Clone, Copy)]
 pub enum Answer {
-    /// The command succeeded: the text was checked or compiled, or the image was listed.
+    /// The command succeeded: the text was checked or compiled, or the image's instructions were listed.
     Done,
     /// The run ended with this value.
     Returned(i32),
     /// The text was rejected with this fault.
     Refused(Fault),
-    /// The file is not an image that can be run or listed; the number tells the reason.
+    /// The file is not an image that can be run or whose instructions can be listed; the number identifies the reason.
     BadImage(u32),
     /// The run ended with an uncaught exception, given by its number and its value.
     Uncaught(u32, i32),

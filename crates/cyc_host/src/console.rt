@@ -138,7 +138,8 @@ pub struct Keyboard<R> {
 /// The largest number of bytes of an input that are recorded.
 const MOST_KEPT: usize = 67_108_864;
 
-/// Returns the recorded bytes of an input with one more byte; `None` if there would be too many.
+/// Returns the recorded bytes of an input extended by one more byte; `None` if this byte cannot be
+/// recorded, as when `MOST_KEPT` bytes already are.
 fn kept_with(kept: Option<Vec<u8>>, byte: u8) -> Option<Vec<u8>> {
     let mut bytes = kept?;
     if bytes.len() >= MOST_KEPT || bytes.push(byte).is_err() {
@@ -162,7 +163,7 @@ fn read_byte<R: Read>(input: &mut R, byte: &mut [u8]) -> io::Result<usize>
     input.read(byte)
 }
 
-/// Takes the first buffered byte, if there is one.
+/// Removes the first byte from the input buffer and returns it; `None` if the buffer is empty.
 fn take_held<R: Read>(input: &mut BufReader<R>) -> Option<u8>
     ensures { MatchOption result (input.new ≡ input.old)
         (λ byte. Consumes (reader_remaining R.remaining input.old) (reader_remaining R.remaining input.new) (byte ∷ [])) }
@@ -210,14 +211,14 @@ impl<R: Read + Drop> Keyboard<R> {
         })
     }
 
-    /// Records all further input, so that a run can be replayed.
+    /// Records all input that is read from now on, so that a run can be replayed.
     pub fn keep(&mut self, alloc: Global)
         ensures { keyboard_remaining R.remaining self.new ≡ keyboard_remaining R.remaining self.old }
     {
         self.kept = Some(Vec::new(alloc));
     }
 
-    /// Returns the recorded bytes; `None` if there were too many.
+    /// Returns the recorded bytes of the input; `None` if nothing is recorded, as when there were too many bytes.
     pub fn kept(&self) -> Option<&[u8]> {
         match &self.kept {
             Some(bytes) => Some(bytes.as_slice()),

@@ -175,7 +175,7 @@ fn end_of_links<R: Files + AllocGlobal>(rt: &R, path: &str) -> Result<PathBuf, A
     Ok(end)
 }
 
-/// Returns true if no file exists at the end of a name's links, so that a file would be created there.
+/// Returns true if the symbolic links of a path lead to a file that does not exist, so that a write would create this file.
 fn is_free<R: Files>(rt: &R, path: &str) -> bool {
     match fs::metadata(rt, path) {
         Err(error) => error.kind() == io::ErrorKind::NotFound,
@@ -216,11 +216,13 @@ enum Place {
     Free,
     /// The entry is a regular file with these permissions: a new file that replaces it gets these permissions.
     Taken(u32),
-    /// The entry is a link, a device or a pipe, which is kept and written to.
+    /// The directory entry with the name of the output file is a link, a device or a pipe. The output is written to this entry, which is
+    /// not replaced by a new file.
     Kept,
 }
 
-/// The permission bits for the owner, the group and others. A file mode has further bits, which a write to the file clears.
+/// The permission bits of a file mode for the owner, for the group and for all other users. A file mode also has bits that
+/// are not permissions, which a write to the file clears.
 const PERMISSIONS: u32 = 0o777;
 
 fn place_of<R: Files>(rt: &R, path: &str) -> Place {
@@ -302,14 +304,14 @@ fn create_beside<R: Files<File = File> + AllocGlobal>(
 /// The bits of a device number that identify its driver. Network and user-space file systems are on devices whose driver number is 0.
 const DRIVER: u64 = 0xffff_f000_000f_ff00;
 
-/// Returns true if a file is on a device without a driver: on such a device a failed write may be reported as late as when the file
-/// is closed.
+/// Returns true if a file is on a device whose driver number is 0, such as that of a network file system. On such a device a failed
+/// write may be reported as late as when the file is closed.
 fn is_elsewhere(metadata: &Metadata) -> bool {
     metadata.is_file() && metadata.dev() & DRIVER == 0
 }
 
-/// Writes all of these bytes to an open file, from the file's beginning. On a device without a driver it also syncs, since an
-/// error might otherwise be reported only by the close, whose result std ignores.
+/// Writes all of these bytes to an open file, from the file's beginning. On a device with driver number 0 the file is also
+/// synced. Without this sync, an error might be reported only by the close, whose result std ignores.
 fn fill(file: &mut File, bytes: &[u8]) -> io::Result<()> {
     file.write_all(bytes)?;
     if is_elsewhere(&file.metadata()?) {

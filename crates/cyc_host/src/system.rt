@@ -42,7 +42,8 @@ fn word_after<'a>(text: &'a [u8], name: &[u8]) -> Option<&'a str> {
     None
 }
 
-/// Returns the limit of this process with this name, in bytes; the greatest number if there is no limit.
+/// Returns the limit of this process that has the given name in `/proc/self/limits`, in bytes. If there
+/// is no such limit, the result is the greatest 64-bit number.
 fn limit_of<R: Files>(rt: &R, name: &[u8]) -> u64 {
     let mut room = [0; MOST];
     let count = read_part(rt, "/proc/self/limits", &mut room);
@@ -97,8 +98,8 @@ fn place_of_output<R: Files>(rt: &R, length: u64) -> u64 {
     }
 }
 
-/// Returns the number of bytes that the standard output accepts under this limit of file sizes, if it is a file; otherwise the greatest
-/// number.
+/// If the standard output is a file, returns the number of bytes that it accepts under this limit of file sizes. Otherwise returns the
+/// greatest 64-bit number.
 #[inline(never)]
 pub fn room_of_output<R: Files>(rt: &R, limit: u64) -> u64 {
     if limit == u64::MAX {

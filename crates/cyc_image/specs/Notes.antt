@@ -7,7 +7,7 @@ use Rattle.cyc_elf.specs.Image.{ImageContents}
 use Rattle.cyc_elf.specs.Reading.{reading}
 use Rattle.cyc_machine_model.specs.Bounds.{AreAllowed}
 
--- Says that the numbers of pages and calls, if given, are valid limits of a run.
+-- Says that the note of an image, if there is one, states valid limits on the pages and the calls of a run.
 abbrev pub AreAllowedIfAny : Option (ℕ × ℕ) → Type 0
 AreAllowedIfAny note = IfSome note (λ limits. AreAllowed limits.0 limits.1)
 

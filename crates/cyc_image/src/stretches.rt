@@ -76,7 +76,7 @@ pub fn stretch_at(stretches: &[Stretch], address: u32) -> Option<Stretch> {
     let mut found = None;
     let mut low: usize = 0;
     let mut high = stretches.len();
-    // Binary search: each iteration halves the range.
+    // The loop is a binary search by address: each iteration halves the range of table entries that may contain the address.
     for _ in 0..usize::BITS {
         let middle = low.saturating_add(high.saturating_sub(low) / 2);
         match stretches.get(middle) {

@@ -39,7 +39,8 @@ pub fn limits_of_run(
 #[derive(Clone, Copy)]
 pub struct Manner {
     pub store: StoreKind,
-    /// True if the maximal numbers of active calls and pages are counted, which only the heap as a pool of pages supports.
+    /// True if the run counts the maximal numbers of active calls and used pages. Only the heap implementation as a pool
+    /// of pages supports this.
     pub counting: bool,
 }
 

@@ -1,5 +1,5 @@
--- The calls chosen for inlining and the chosen duplicates satisfy the conditions for inlining, and the numbers in the
--- code fit machine words.
+-- The calls chosen for inlining, and the instructions chosen for duplication, satisfy the conditions for these
+-- changes. Each number in an instruction of the code fits a machine word.
 use Rattle.std.proofs.Common.{◌≡◌, ℕ, zero, suc, ◌+◌, ◌^◌, ◌<◌, ◌≤◌, Bool, true, false, List, [], ◌∷◌, ◌++◌, length, Option, Some, None, refl, sym, ap, subst, ◌∙◌, arith, inl, inr}
 use Rattle.std.specs.Prelude.{◌⊎◌, ◌==◌, nat_lt, nat_le, if◌then◌else◌, not, ◌&&◌, filter, slice_get, sum_by}
 use Rattle.std.specs.List.{AllByRecursion}
@@ -96,7 +96,7 @@ few_instructions program number plain is_function =
 
 -- ---- the instructions before an instruction
 
--- If a duplicate of an instruction may be put before it, hoisted instructions may be put before it too.
+-- If an instruction may be preceded by its duplicate, it may also be preceded by hoisted instructions.
 duplicate_preceded : (i : Instruction) → may_have_duplicate i ≡ true → may_follow_hoisted i ≡ true
 duplicate_preceded (instructions.Binary operator destination left right) may = refl
 duplicate_preceded (instructions.LoadGlobal destination global) may = refl
@@ -296,7 +296,7 @@ no_calls program r chosen slots none same = record {
   frame = inl same;
 }
 
--- If a list of numbers is extended by one number, each positive number of the new list is in the old list or is the new last one.
+-- Each positive number in a list that was extended by one number is at its index in the old list, or is the added number.
 pub last_line : (lines : List ℕ) (line : ℕ) (k : ℕ) → 0 < place_in (lines ++ line ∷ []) k
     → (place_in (lines ++ line ∷ []) k ≡ place_in lines k) ⊎ ((k ≡ length lines) × (place_in (lines ++ line ∷ []) k ≡ line))
 last_line [] line zero is = inr (refl, refl)

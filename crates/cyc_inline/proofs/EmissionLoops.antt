@@ -95,8 +95,7 @@ pub front_origins : (origin : Origin) (all_hoisted duplicate : List Instruction)
 front_origins origin [] duplicate = replicate_last origin (length duplicate)
 front_origins origin (x ∷ all_hoisted) duplicate = ap (λ (os : List Origin). origin ∷ os) (front_origins origin all_hoisted duplicate)
 
--- If a function's successful result satisfies a condition that implies another condition, then the result
--- satisfies the other condition too.
+-- If a function's successful result satisfies a condition `P`, and `P` implies a condition `Q`, then the successful result satisfies `Q`.
 pub then_ok : {T : Type 0} {P Q : Type 0} (result : Result T AllocError) → OnOk result P → (P → Q) → OnOk result Q
 then_ok (Ok value) holds next = next holds
 then_ok (Err e) holds next = tt

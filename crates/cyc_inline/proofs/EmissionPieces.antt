@@ -26,7 +26,7 @@ stands_at_back all front back at stands k x is =
     let same : at + length front + k ≡ at + (length front + k) = omega arith in
     ap (slice_get all) same ∙ stands (length front + k) x (slice_get_back front back k ∙ is)
 
--- If one list occurs in another, it also occurs there after a prefix is added in front, at an index greater by the prefix's length.
+-- If one list occurs in another at an index, and a prefix is added to the other, then it occurs at this index plus the prefix's length.
 stands_at_after : {A : Type 0} (front all part : List A) (at : ℕ) → StandsAt all part at → StandsAt (front ++ all) part (length front + at)
 stands_at_after front all part at stands k x is =
     let same : length front + at + k ≡ length front + (at + k) = omega arith in

@@ -273,7 +273,8 @@ module _ (program : Program) (number : ℕ) (chosen : List ℕ) (front_at : ℕ 
       let (here, nothing) = has_at s.code (moved 0 place i ∷ []) (place k) own.code in
       (here, own.made, own.next)
 
-  -- The hoisted instructions and the duplicate that are put before an instruction satisfy `MayPrecede`, the condition for being there.
+  -- The hoisted instructions and the duplicate that are put before an instruction satisfy `MayPrecede`, the condition on instructions
+  -- that are added before that one.
   may_precede : (i : Instruction) (front : List Instruction) → AllByRecursion (λ (x : Instruction). (may_hoisted (length program.globals) r.slots s.slots x ≡ true) ⊎ IsDuplicate r.slots s.slots i x) front
       → AllByRecursion (MayPrecede r.slots s.slots i) front
   may_precede i [] each = tt

@@ -86,7 +86,7 @@ rest_place results line first here there (i ∷ code) (suc k) within past =
     let rest = rest_place results line (suc first) (here + count_inside results line true first i) (there + count_inside results line false first i) code k (omega (arith, within)) (omega (arith, past)) in
     omega (arith, rest)
 
--- Those of the callee's instructions that are not placed at the call contribute nothing to the code there.
+-- The instructions of the callee that are placed after the caller's code add nothing to the code at the inlined call.
 none_past : (results line first : ℕ) (code : List Instruction) (k : ℕ) → line ≤ first → offset (count_inside results line true) first code k ≡ 0
 none_past results line first [] k past = refl
 none_past results line first (i ∷ code) zero past = refl
@@ -197,8 +197,8 @@ module _ (program : Program) (code : List Instruction) (origins : List Origin) (
         (stands_within origins (pieces piece 0 t.code) (piece k i) (begin is.in_line) (offset (counts is.in_line) 0 t.code k) whole
         (subst (λ (n : ℕ). StandsAt (pieces piece 0 t.code) (piece n i) (offset (counts is.in_line) 0 t.code k)) same inner))))
 
-    -- At the call and after the caller's code, the offset of the callee's next instruction is that of the current one plus
-    -- the size of its replacement there.
+    -- If a callee's instruction is placed at the call, the next one's offset in the code there is its own offset plus its
+    -- replacement's size. The same holds for an instruction of the callee that is placed after the caller's code.
     further : (in_line : Bool) (k : ℕ) (i : Instruction) → At t.code k i → stands_in in_line site.call.line k ≡ true
         → offset (counts in_line) 0 t.code (k + 1) ≡ offset (counts in_line) 0 t.code k + inside_count site.results site.call.line k (is_end i)
     further in_line k i at is =

@@ -256,8 +256,8 @@ module _ (program : Program) (reached : List Bool) (plain : IsPlain program) (ar
       endings = λ s t ending matches ended. ap status_of matches.0 ∙ ended;
     }
 
-    -- If the unreachable functions of a program keep only a return, a stack address that is allowed for a step of this program is also
-    -- allowed in the source program.
+    -- If unreachable functions are replaced by a single return, a stack address allowed for a step of the new program is also allowed
+    -- in the source program.
     lies : (c : Configuration) (base : ℕ) (o : Option ℕ) → MayLie (emptied program reached) base o (Running c) → MayLie program base o (Running c)
     lies c base None may = may
     lies c base (Some function) may = record {

@@ -157,7 +157,8 @@ module _ (program inlined : Program) (origins : List (List Origin)) (are : AreOp
           above : Step program pages calls (Running c) (Running e)
           above = step_so program pages calls c i (Running e) at (ordinary_calls i ordinary) does within
 
-          -- After the steps that replace one instruction of an inlined callee, both programs are at corresponding code positions again.
+          -- After the steps that replace one instruction of an inlined callee, the source program and the inlined program are again at
+          -- corresponding code positions.
           arrives : (u : State) (other : ℕ) → u ≡ Running (beside program inlined origins are e (record g.active { next = other }) g.frames) → other ≡ place e.active.next → HoldsWords u
               → (s : State) × Step program pages calls (Running c) s × Matches program inlined origins are plain fine pages calls s u
           arrives u other is to words = (

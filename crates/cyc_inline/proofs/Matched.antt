@@ -113,7 +113,8 @@ module _ (program inlined : Program) (origins : List (List Origin)) (are : AreOp
       endings = λ s t ending matches over. ended s t ending matches.alike over;
     }
 
-    -- The simulation relation holds again if the source program makes a step and the resulting states correspond.
+    -- After a step of the source program, the simulation relation between the source program and the inlined
+    -- program holds again if their resulting states correspond.
     pub kept : (s t next u : State) → Matches s t → Step program pages calls s next → Alike next u → HoldsWords u → Matches next u
     kept s t next u matches step alike words = record {
       alike = alike;

@@ -1,5 +1,5 @@
--- Each emitted instruction names only existing slots, globals and functions, contains only numbers that fit machine words,
--- and takes the address of no extra slot.
+-- Each emitted instruction names only existing slots, globals and functions, and contains only numbers that fit machine
+-- words. No emitted instruction takes the address of a slot that was added to the function.
 use Rattle.std.proofs.Common.{◌≡◌, ℕ, zero, suc, ◌+◌, ◌<◌, ◌≤◌, Bool, true, false, List, [], ◌∷◌, length, Option, Some, None, refl, sym, ap, subst, ◌∙◌, arith, inl, inr, length-append}
 use Rattle.std.specs.Prelude.{All, ◌⊎◌, ◌==◌, ◌||◌, nat_le, if◌then◌else◌}
 use Rattle.std.specs.List.{AllByRecursion}

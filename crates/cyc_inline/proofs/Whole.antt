@@ -1,5 +1,5 @@
--- If each function of a new program is made from a function of a plain program (in three-address code), then the new program is
--- plain too, and behaves as the given one.
+-- If each function of a program is made from one of a plain program (in three-address code), then the new program is plain. The
+-- new program then also behaves as the plain program from which it is made.
 use Rattle.std.proofs.Common.{◌≡◌, ℕ, ◌<◌, ◌≤◌, List, length, Some, slice_get, refl, sym, subst, ◌∙◌, arith}
 use Rattle.std.specs.Prelude.{All, sum_by}
 use Rattle.std.proofs.lemmas.Option.{get_or_from_slice_get}

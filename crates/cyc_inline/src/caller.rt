@@ -132,7 +132,7 @@ impl Emission {
         self.push_all_hoisted(globals, given_slots, slots, wanted, origin)
     }
 
-    /// Appends the hoisted instructions that the search for loop invariants requested before an instruction.
+    /// Appends the hoisted instructions that the search for loop invariants requested to be put before an instruction.
     fn push_wanted(
         &mut self,
         plain: &Plain,

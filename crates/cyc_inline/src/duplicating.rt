@@ -135,7 +135,7 @@ pub(crate) fn hoisted_count(
     count
 }
 
-/// Returns a copy of the instruction that writes another slot instead.
+/// Returns a copy of the instruction that writes its result to the slot `slot` instead of to the slot that the instruction itself writes.
 pub(crate) fn duplicate(slot: usize, instruction: Instruction) -> Instruction
     ensures { result ≡ opened.duplicate slot instruction }
 {

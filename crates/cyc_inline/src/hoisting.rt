@@ -1,5 +1,5 @@
-//! Chooses the loop-invariant expressions that are hoisted. The search for expressions to hoist is
-//! not verified; the verified code checks each choice.
+//! Chooses the loop-invariant expressions that are hoisted. The search for these expressions is not
+//! verified; verified code checks each expression that the search chooses.
 use crate::duplicating::may_follow_hoisted;
 use crate::limits::MOST_HOISTED;
 use crate::naming::Search;
@@ -100,8 +100,8 @@ impl Search {
         }
     }
 
-    /// Decides on hoisting at the end of a loop: keeps the expressions that are invariant in the loop for the
-    /// enclosing loop, and removes the others from the list.
+    /// Decides on hoisting at the end of a loop. The expressions that are invariant in this loop stay in the list of candidates for the
+    /// enclosing loop. All other expressions of the ended loop are removed from the list of candidates.
     fn close_loop(&mut self, code: &[Instruction], head: usize) -> Result<(), AllocError> {
         let front = front_of(code, head);
         let first = self.first_from(head);

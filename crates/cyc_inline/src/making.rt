@@ -68,8 +68,8 @@ fn opened(
     })
 }
 
-/// Returns the number of words of machine code by which later functions may together grow, or `None` if the
-/// replacement `made` grows too much.
+/// Returns the number of words of machine code by which the later functions of the program may together
+/// grow. Returns `None` if the replacement `made` is larger than the function by more than `spare` words.
 fn spare_after(given: &Function, made: &Function, spare: usize) -> Option<usize>
     ensures { IfSome result (λ left. size (routine_of made.now) + left ≤ size (routine_of given.now) + spare) }
 {

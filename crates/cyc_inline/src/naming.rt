@@ -1,6 +1,6 @@
-//! Chooses the expressions of a function that get extra slots. Extra slots are given to expressions that are computed again after their
-//! slot was overwritten, and to loop invariants, which are also hoisted. The search for such expressions is not verified; the verified
-//! code checks each choice.
+//! Chooses the expressions of a function that get extra slots. An extra slot is given to an expression that is computed again after its
+//! slot was overwritten, and to a loop invariant, which is also hoisted. The search for such expressions is not verified; verified code
+//! checks each expression that the search chooses.
 use crate::hoisting::Candidate;
 use crate::shapes::{LOAD, LOAD_GLOBAL, Shape, Value, bucket_of, is_same_shape, is_slot, kind_of};
 use crate::writing::{Slots, pinned_by, slots_from, stores, written_by};
@@ -10,7 +10,7 @@ use std::alloc::{AllocError, Global};
 /// The maximum number of expressions in a hash bucket that are compared.
 const MOST_COMPARED: usize = 8;
 
-/// The maximum number of instructions of a small function. In a small function an expression may get a slot outside loops too.
+/// The maximum number of instructions of a small function. In a small function, expressions outside loops may also get an extra slot.
 const MOST_SMALL: usize = 256;
 
 #[derive(Clone, Copy)]

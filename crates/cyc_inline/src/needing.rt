@@ -3,8 +3,8 @@ use crate::naming::{Search, is_small};
 use cyc_plain::{Function, Instruction, LAYOUT_WORDS, MOST_FRAME_WORDS, Plain};
 use std::alloc::{AllocError, Global};
 
-/// The number of slots including the extra ones. For each instruction, the struct also stores the slot of its duplicate (or 0) and its
-/// hoisted instructions.
+/// The number of a function's slots, including the extra slots for expressions. For each instruction, the struct also stores the slot
+/// of its duplicate (or 0) and its hoisted instructions.
 #[derive(Drop)]
 pub(crate) struct Duplicates {
     pub(crate) slots: usize,
@@ -51,8 +51,8 @@ impl Search {
         Ok(self.has_needed)
     }
 
-    /// Returns the index of the first function that needs an extra slot for an expression, or the number of functions if none does. The
-    /// facts about the returned function are kept.
+    /// Returns the index of the first function that needs an extra slot for an expression, or the number of functions if none does.
+    /// What the search recorded about the returned function is not discarded.
     pub(crate) fn first_needing(&mut self, plain: &Plain) -> Result<usize, AllocError> {
         let functions = plain.functions();
         for (number, function) in functions.iter().enumerate() {

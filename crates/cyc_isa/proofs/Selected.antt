@@ -1,4 +1,4 @@
--- Looking up the numbers of an instruction's table row in the tables for decoding finds the row's operation.
+-- Looking up the fixed numbers of an instruction's row of the instruction table in the decoding tables finds the operation of this row.
 use Rattle.std.proofs.Common.{◌≡◌, ℕ, ◌==◌, false, Some, refl}
 use Rattle.cyc_isa.specs.Field.{Opcode, Rt, Function, field_of}
 use Rattle.cyc_isa.specs.Table.{immediate, memory, branch, branch_zero, jump, shift, shift_variable, exception, move_from, multiply_divide, arithmetic}

@@ -244,7 +244,8 @@ fn by_function(word: u32) -> Option<Instr>
     Some(instr)
 }
 
-/// Returns the instruction that a word may encode, selected by its opcode and, for opcodes 0 and 1, by a further field.
+/// Returns the instruction that a word may encode. It is selected by the field `opcode` of the word. For opcode 0 it is
+/// selected by the field `function`, and for opcode 1 by the field `rt`.
 fn selected(word: u32) -> Option<Instr>
     ensures { result ≡ selected_of word }
 {

@@ -173,7 +173,8 @@ pub fn arithmetic(op: ArithmeticOp) -> Code
     }
 }
 
-/// Returns the number in the field `rt` of a branch on a sign; it distinguishes such branches with the same opcode.
+/// Returns the number in the field `rt` of a branch that tests the sign of a register. The number distinguishes
+/// such branches that have the same opcode.
 pub fn branch_zero_rt(op: BranchZeroOp) -> u8
     ensures number { result ≡ (branch_zero op).1 }
     ensures small { result < 32 }

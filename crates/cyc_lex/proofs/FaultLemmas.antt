@@ -32,8 +32,7 @@ begins_nothing m begins = by begins.0 begins.2 begins.3.spelled
     by [] e spelled = piece_nonempty m spelled
     by (b ∷ bs) e spelled = cc
 
--- If a fault code describes the rest of a text, independently of a token count, then it also holds
--- there with any number of tokens before it.
+-- If a fault code describes the rest of a text, independently of a token count, then it describes this rest after any number of tokens.
 holds_here : (code : Code) (count : ℕ) (text : List ℕ) → FailsHere code text → Holds code count text
 holds_here codes.UnknownByte count text fails = fails
 holds_here codes.UnclosedComment count text fails = fails

@@ -35,7 +35,7 @@ pub fn lex(alloc: Global, text: &[u8]) -> Result<Vec<Token>, Fault>
     read_tokens(alloc, text)
 }
 
-/// Returns the tokens of a text that is not too long.
+/// Returns the tokens of a text that has at most `MAX_BYTES` bytes.
 fn read_tokens(alloc: Global, text: &[u8]) -> Result<Vec<Token>, Fault>
     requires { length text.now ≤ MAX_BYTES }
     ensures accepted { IfOk result (λ v. IsAccepted text.now (map (token_of text.now) v.items)) }

@@ -32,7 +32,7 @@ few_locals f small = (omega (arith, small), omega (arith, small, slots-few (view
 
 -- The body of a function is emitted with provisional jump targets far after its code, which stand for the blocks that raise
 -- exceptions. Once the provisional targets are replaced, the body's jumps go to the blocks after the body that raise exceptions.
--- The blocks that raise exceptions come after a return, and only those up to the last one that is a jump target are kept.
+-- The blocks that raise exceptions come after a return. The blocks after the last one that is a jump target are removed.
 pub function_made : (structs : List StructType) (globals : List ℕ) (scopes : Option ℕ) (h : Function) (locals : List ℕ) (slot free far raises end : ℕ) (count kept : ℕ) (first body ended all code : List Instruction) → locals ≡ starts_from 0 (slot_types h) → slot ≡ tag_slot h → free ≡ first_temporary h
     → first ≡ items_code (record { locals = locals; tag_slot = slot; structs = structs; raises = far; counters = []; globals = globals; scopes = scopes }) h.body 0 outside_loops free → raises ≡ length first
     → AreTurned far raises first body → IsClose structs globals scopes h → raises + 7 ≤ far

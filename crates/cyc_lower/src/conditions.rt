@@ -323,7 +323,8 @@ impl Emitter {
         self.lower_tests(starts, operator, first, rest, following, free)
     }
 
-    /// Emits a condition that is a chain of operators, which may be logical operators or others.
+    /// Emits a condition that is a chain of operators (such as `a && b && c`). The operators of the chain may be logical operators, or
+    /// other operators such as `+`.
     fn choose_chain(
         &mut self,
         starts: &Starts,
@@ -394,7 +395,8 @@ impl Emitter {
         })
     }
 
-    /// Emits the condition of a branch that is a chain of operators, which may be the given logical operator or others.
+    /// Emits the condition of a branch that is a chain of operators (such as `a && b && c`). The operators of the chain
+    /// may be the given logical operator, or other operators such as `+`.
     fn branch_chain(
         &mut self,
         starts: &Starts,

@@ -19,8 +19,8 @@ use cyc_types::typed::{Converted, Kind};
 use std::alloc::AllocError;
 
 impl Emitter {
-    /// Emits the conversion of a value in place. A value that must not be null is tested. A thin pointer that becomes fat gets two further
-    /// words. A fat pointer that becomes thin becomes the address of its cell.
+    /// Emits the conversion of a value in the slots where the value is. A value that must not be null is tested for null. A thin pointer
+    /// that becomes fat gets two more words, its length and its index. A fat pointer that becomes thin becomes the address of its cell.
     pub(crate) fn convert(
         &mut self,
         starts: &Starts,
@@ -59,7 +59,8 @@ impl Emitter {
         self.thin(starts, conversion.to, span, value)
     }
 
-    /// Emits the move of a value to a slot, unless the value is already there; its representation kind gives its number of words.
+    /// Emits the move of a value to a slot, unless the value is in this slot already. The representation kind of the value gives
+    /// its number of words.
     pub(crate) fn copy(
         &mut self,
         kind: Kind,

@@ -244,8 +244,8 @@ impl Emitter {
         }
     }
 
-    /// Emits a fat pointer before its index. The pointer stays in its local if evaluating the index has no side effect, otherwise
-    /// it is moved to slots.
+    /// Emits the code of a fat pointer before the code of the index that is added to it. The pointer stays in its local if
+    /// evaluating the index has no side effect, otherwise it is moved to slots.
     #[cycle(expression)]
     fn lower_pointer(
         &mut self,
@@ -553,7 +553,8 @@ impl Emitter {
         }
     }
 
-    /// Emits a value that must be in a slot: in the slot of its local if the conversion changes no words, otherwise in `free`.
+    /// Emits a value that must be in a slot. The value of a local stays in the slot of the local if its conversion changes no
+    /// words. Any other value is moved to the slot `free`.
     pub(crate) fn lower_to_slot(
         &mut self,
         starts: &Starts,

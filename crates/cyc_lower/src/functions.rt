@@ -34,7 +34,7 @@ const SPARE_SLOTS: usize = 3;
 /// A function's frame has this many slots for tags of exceptions, after the slots of its locals.
 const TAG_SLOTS: usize = 1;
 
-/// The number of machine words of a frame that hold neither locals, nor values kept across statements, nor temporaries.
+/// The number of machine words of a stack frame that hold neither a local, nor a value saved across statements, nor a temporary.
 const KEPT_WORDS: usize = 24;
 
 /// A position beyond the end of any function's code and of the blocks after it that raise exceptions.
@@ -53,8 +53,8 @@ fn results_of(of_type: &Option<Ty>) -> usize
     }
 }
 
-/// Returns how many instructions of the blocks that raise exceptions are kept, computed from the farthest jump
-/// target. The first two instructions of a function's blocks that raise exceptions belong to one block.
+/// Returns how many instructions of the blocks that raise exceptions remain in the code, computed from the
+/// farthest jump target. The first two instructions of these blocks form one block.
 fn blocks_kept(farthest: usize) -> usize
     ensures { result ≡ blocks_kept farthest }
 {
@@ -83,10 +83,10 @@ fn lower_body(
     Ok(emitter)
 }
 
-/// Lowers a function. The slots of a function hold its locals, the tag of an exception, the handler records, the temporaries and one more
-/// value. The body is emitted with provisional targets, far after its code, for the blocks that raise exceptions, whose positions are
-/// known only afterwards. The provisional targets in the emitted body are then replaced. The blocks that raise exceptions are kept up to
-/// the last one that is a jump target.
+/// Lowers a function. The slots of a function hold its locals, the tag of an exception, the handler records and the temporaries, and
+/// there are slots for one more value. The body is emitted with provisional targets, far after its code, for the blocks that raise
+/// exceptions. The positions of these blocks are known only after the body is emitted. The provisional targets in the emitted body are
+/// then replaced. The blocks that raise exceptions are then emitted, and those after the last one that is a jump target are removed.
 fn lower_function(
     alloc: Global,
     structs: &[StructType],

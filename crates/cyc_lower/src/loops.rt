@@ -1,5 +1,5 @@
-//! Emits the code of loops. A light condition (simple enough to be emitted twice) is also emitted before its loop, so that no jump from
-//! before the loop goes to the condition after the body.
+//! Emits the code of loops. A light condition (simple enough to be emitted twice) is emitted before the body of its loop and again
+//! after the body. No jump from before a loop with a light condition goes to the condition after the body.
 ghost use Rattle.std.specs.Prelude.{◌≡◌, ◌≤◌, ◌<◌, ◌+◌, length};
 ghost use Rattle.cyc_types.specs.TypedTreeView.{view_expression, view_statement};
 ghost use Rattle.cyc_meaning.specs.FrameCount.{kept_by};

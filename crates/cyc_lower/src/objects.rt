@@ -167,8 +167,8 @@ impl Emitter {
         Ok(())
     }
 
-    /// Emits the move of the length of an array, in the slot `free`, to one slot, and of the index 0 to another. If the length is too
-    /// large for elements of this representation kind, the emitted code raises an exception.
+    /// Emits the move of the length of an array from the slot `free` to a second slot, and the move of the index 0 to a third slot.
+    /// If the length is too large for elements of this representation kind, the emitted code raises an exception.
     fn measure_array(
         &mut self,
         starts: &Starts,

@@ -125,7 +125,8 @@ fn is_light_place(starts: &Starts, place: &Dereference) -> bool
     }
 }
 
-/// Returns true if an expression is light: without side effects, or a load at such an index through a pointer that needs no code.
+/// Returns true if an expression is light: its evaluation has no side effects, or it loads an element at an index without side
+/// effects through a pointer that needs no code.
 fn is_light(starts: &Starts, value: &Expr) -> bool
     ensures { result ≡ is_light (view_starts starts.now) (view_expression value.now) }
 {

@@ -439,7 +439,7 @@ pub(crate) fn other_jump(tag: usize, slot: usize, target: usize) -> Instruction
     }
 }
 
-/// Returns the instruction that throws an exception again that no clause has caught.
+/// Returns the instruction that throws an exception again if no catch clause of a `try` has caught it.
 pub(crate) fn goes_on(slot: usize) -> Instruction
     requires { slot ≤ most_locals }
     ensures { result ≡ goes_on slot }

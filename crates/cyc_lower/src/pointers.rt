@@ -95,7 +95,8 @@ impl Emitter {
         }
     }
 
-    /// Emits the two further words of a thin pointer that becomes fat: the length 1 and the index 0; for null the length 0.
+    /// Emits the second and the third word of a thin pointer that becomes fat. The second word is the length 1, or 0 for a
+    /// null pointer, and the third word is the index 0.
     pub(crate) fn widen(&mut self, pointer: Operand) -> Result<(), AllocError>
         ensures { Appends result self.old self.new (widened_code pointer) }
     {

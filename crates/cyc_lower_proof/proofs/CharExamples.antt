@@ -76,7 +76,7 @@ char_is_stored : function_code [] [] None (function [] (Int ∷ star ∷ []) (al
     ∷ instructions.Throw (Constant 1) (Constant 0) ∷ []
 char_is_stored = refl
 
--- A char can be used as an operand without further code, like an int.
+-- A char can be used as an operand like an int, without an instruction that converts it.
 char_is_operand : function_code [] [] None (function [] (Int ∷ Char ∷ []) (all (Evaluate (Assign (Local nowhere 0) (int (sum (wide (char 1)) (Number 1))) (Value Int)) ∷ []))) ≡
     instructions.Binary plain_binary.Add 0 (Slot 1) (Constant 1)
     ∷ instructions.Finish 2 ∷ []

@@ -71,7 +71,7 @@ all (s ∷ ss) = MoreItems (Execute s) (all ss)
 abbrev pub returns : Expression → Statement
 returns a = Return (Some (int a))
 
--- Builds a function with the given parameter types and the given types of further locals.
+-- Builds a function with the given parameter types, and with the given types of the locals that are not parameters.
 abbrev pub function : List Ty → List Ty → Items → Function
 function parameters locals body = record {
   name = 0;
@@ -390,7 +390,7 @@ branch_code : code_of_body (all (If (local 0) (Evaluate (two (local 0) (ThenComp
     ∷ instructions.Finish 2 ∷ blocks 2
 branch_code = refl
 
--- A condition that is a comparison takes one jump, and a negated comparison takes one jump too.
+-- A condition that is a comparison takes one jump, and so does a negated comparison.
 compared_code : code_of_body (all (If (two (local 0) (ThenCompute Less (local 1) NoOperations)) (returns (local 0)) Empty ∷ [])) ≡
     instructions.Branch comparisons.GreaterOrEqual (Slot 0) (Slot 1) 2
     ∷ instructions.Finish 0

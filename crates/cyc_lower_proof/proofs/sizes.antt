@@ -1,5 +1,5 @@
--- This module proves the rest of the lowering's contract: the plain program is well-formed, consists of 32-bit words, and has a
--- size bounded by the tokens of the source.
+-- This module proves that the lowered program is well-formed, consists of 32-bit words, and has a size bounded by the number of
+-- tokens of the source. These facts complete the proof of the lowering's contract.
 pub mod RangeLemmas
 pub mod ValueRoom
 pub mod ValueRanges

@@ -65,8 +65,8 @@ pub enum Exchange {
     Puts(u8),
 }
 
-/// A number of executed instructions and the event of the last one; all others emitted `Ran`. The event is `Ran` only if the
-/// requested number was reached. If the event is `NoMemory`, the instruction that lacked memory is not counted.
+/// How many instructions were executed, and the event of the last one; all earlier instructions emitted `Ran`. The event is `Ran` only if
+/// the requested number of instructions was reached. If the event is `NoMemory`, the instruction that lacked memory is not counted.
 #[derive(Clone, Copy, Debug, PartialEq, Eq)]
 pub struct Stretch {
     pub count: u64,

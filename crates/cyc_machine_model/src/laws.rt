@@ -29,7 +29,7 @@ pub fn runs_compose()
     ensures split { (m n : ℕ) (u w : World) → Run (m + n) u w → (v : World) × Run m u v × Run n v w }
 {}
 
-/// No run changes the text, the numbers of words and registers, or the number of the store's pages.
+/// No run changes the text (program code), how many words and registers the machine has, or how many pages its heap store has.
 pub fn shape_stays()
     ensures { (count : ℕ) (old new : World) → Run count old new → SameShape old.machine new.machine }
 {}

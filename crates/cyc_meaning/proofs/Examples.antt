@@ -149,7 +149,7 @@ shift_right_by_34 : value (two (Number 17) operators.ShiftRight (Number 34)) ≡
 unfolding sar_of
 shift_right_by_34 = refl
 
--- Comparisons compare signed numbers, and return 0 or 1.
+-- The comparison operators compare signed integers, and return 0 or 1.
 equal : value (two (Number 5) operators.Equal (Number 5)) ≡ HasEnded (Returned (pos 1))
 equal = refl
 
@@ -543,7 +543,7 @@ demand_at_the_start = refl
 
 -- ---- regions
 
--- Returns the numbers of the open regions in a list, where the first region of the list has the given number.
+-- Returns the indices of the open regions in a list, where the first region of the list has the given index.
 abbrev open_from : ℕ → List Region → List ℕ
 open_from number [] = []
 open_from number (r ∷ regions) = if r.is_open then number ∷ open_from (suc number) regions else open_from (suc number) regions

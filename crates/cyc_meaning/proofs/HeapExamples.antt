@@ -43,7 +43,7 @@ place_before_value_ends : long_end (program (define 0 star (null_as star) ∷ ex
 place_before_value_ends = refl
 
 -- int *p = NULL; return &*p == NULL;
--- The operand of `&` is checked too: `&*p` with a null pointer p raises an exception.
+-- The operand of `&` is checked for null: `&*p` with a null pointer p raises an exception.
 address_of_null : end (program (define 0 star (null_as star) ∷ return (apply (AddressOfCell (target star (variable 0 star)) at) pointers.ThinIsNull NullPointer Int) ∷ [])) ≡ HasEnded (Uncaught 1 (pos 0))
 address_of_null = refl
 
@@ -302,11 +302,12 @@ arrays_of_arrays = refl
 array_of_negative_length : end (program (declare 0 (Unary unary.Negate (Number 1)) ∷ define 1 fat (convert fat fat (array OnHeap fat (local 0) (Number 1))) ∷ return (Number 0) ∷ [])) ≡ HasEnded (Uncaught 3 (pos 0))
 array_of_negative_length = refl
 
--- `new {for i < 1001 : 1};` raises the exception for a too long array, and with 1000 elements the allocation begins.
+-- `new {for i < 1001 : 1};` raises the exception for an array that is too long. With 1000 elements the allocation begins.
 array_too_long : end (program (define 0 fat (convert fat fat (array OnHeap fat (Number 1001) (Number 1))) ∷ return (Number 0) ∷ [])) ≡ HasEnded (Uncaught 3 (pos 0))
 array_too_long = refl
 
--- An array of 334 fat pointers has 1,002 words, which is too many; an array of 333 has 999.
+-- An array of 334 fat pointers has 1,002 machine words, which is more than an array may have. An array of 333 fat pointers has 999 machine
+-- words.
 array_of_too_many_words : makes_array (InRegion 0) 0 kinds.Fat (NullPointer) (Word 334) [] no_locals (first_world (program []) []) ≡ Running (Throwing 3 0) [] no_locals (first_world (program []) [])
 array_of_too_many_words = refl
 

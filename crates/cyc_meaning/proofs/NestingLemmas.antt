@@ -46,7 +46,7 @@ all_below_more : (ns : List ℕ) (bound more : ℕ) → bound ≤ more → AreBe
 all_below_more [] bound more less h = tt
 all_below_more (n ∷ ns) bound more less (first, h) = (omega (arith, first, less), h)
 
--- If a region is closed, the open regions with lower numbers stay open.
+-- If a region is closed, the open regions with lower indices stay open.
 open_below : (regions : List Region) (number : ℕ) (r : Region) (ns : List ℕ) → AreBelow number ns → AreOpen regions ns → AreOpen (set regions number r) ns
 open_below regions number r [] below h = tt
 open_below regions number r (n ∷ ns) (less, below) (found, h) =
@@ -94,7 +94,7 @@ one_here number n ns same = ap (λ (b : Bool). b || is_one number ns) (eq-eqb n 
 pub one_there : (number n : ℕ) (ns : List ℕ) → n ≢ number → is_one number (n ∷ ns) ≡ is_one number ns
 one_there number n ns other = ap (λ (b : Bool). b || is_one number ns) (false_from_ne_true (n == number) (λ e. other (eqb-true n number e)))
 
--- The lexical regions that entries of the control stack still close have lower numbers than any region opened later.
+-- The lexical regions that continuation frames of the control stack will close have lower indices than any region opened later.
 pub none_above : (stack : List Entry) (bound number : ℕ) → AreBelow bound (ends_of stack) → bound ≤ number → is_one number (lexicals_of stack) ≡ false
 none_above [] bound number below less = refl
 none_above (CloseLexical region ∷ stack) bound number (lower, below) less =

@@ -1,4 +1,4 @@
--- The numbers of locals increase along the program text of a well-typed program.
+-- The indices of locals increase along the program text of a well-typed program.
 use Rattle.std.proofs.Common.{◌≡◌, ℕ, zero, suc, ◌≤◌, true, false, List, [], ◌∷◌, length, Some, None, subst, arith}
 use Rattle.std.specs.Prelude.{slice_get}
 use Rattle.cyc_types.specs.declared.region.Region.TheVariants as regions

@@ -234,7 +234,8 @@ limited_until_full program pages calls zero s other = refl
 limited_until_full program pages calls (suc n) s other =
     limited_choice program pages calls n s other (limited_until_full program pages calls n (step program s))
 
--- Every outcome of the limited run, except the end for exceeded limits, is also an outcome of the unlimited run.
+-- Every outcome of the run with limits on pages and calls is an outcome of the run without limits, except the
+-- end because a limit was exceeded.
 pub limited_comes_to : (program : Program) (pages calls n : ℕ) (s : State) (status : Status) → status ≢ HasEnded Full → status_of (limited_steps program pages calls n s) ≡ status → status_of (steps program n s) ≡ status
 limited_comes_to program pages calls n s status other is =
     let same : limited_steps program pages calls n s ≡ steps program n s = limited_until_full program pages calls n s (λ full. other (sym is ∙ full)) in

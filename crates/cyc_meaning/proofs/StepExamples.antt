@@ -36,8 +36,8 @@ at n = (focus_of (run (program of_main) [] n), stack_of (run (program of_main) [
 abbrev int : ℕ → Operand
 int n = record { kind = kinds.Int; value = values.Int n }
 
--- The control-stack entries below the `return` are the rest of the body of `main`, and the end of the body's region. The region around
--- the `return` has number 2, after the heap and the region of the globals.
+-- The control-stack entries below those of the `return` statement are the rest of the body of `main`, the end of the body's region,
+-- and the call of `main`. The region in which the `return` is executed has index 2, after the heap and the region of the globals.
 abbrev outside : List Entry
 outside = Rest NoItems ∷ CloseRegion 2 1 ∷ Main ∷ []
 

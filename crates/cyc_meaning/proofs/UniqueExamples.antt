@@ -138,7 +138,7 @@ aliased = refl
 
 -- ---- demand
 
--- The heap state with one more unique block of 512 words, and the heap state with one such block freed again.
+-- The heap state after one more unique block of 512 words is allocated, and the heap state after one such block is freed.
 abbrev more : World → World
 more w = made_unique w (blanks 512 kinds.Int)
 
@@ -162,7 +162,8 @@ one_block_takes_a_page = refl
 three_blocks : pages (more (more (more none))) ≡ 3
 three_blocks = refl
 
--- Three blocks that are allocated and freed one after the other need one page; a page that was once needed is kept.
+-- If three blocks are allocated and freed one after the other, the blocks need one page. A page that was once
+-- needed for blocks stays in use after its blocks are freed.
 three_in_turn : pages (more (less 1 (more (less 0 (more none))))) ≡ 2
 three_in_turn = refl
 

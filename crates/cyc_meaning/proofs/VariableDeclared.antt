@@ -71,14 +71,14 @@ module _ (number : ℕ) (locals : Locals) (x : Object) (objects : List Object) (
   pub then_here : then_locals number ≡ Some (length objects)
   then_here = ap (λ (b : Bool). if b then Some (length objects) else locals number) (eq-eqb number number refl)
 
-  -- Declaring a local keeps the bounds on the numbers of the locals of enclosing blocks.
+  -- Declaring a local preserves the bounds on the indices of the locals of enclosing blocks.
   low_around : (m : ℕ) (stack : List Entry) → (IsOfCall home stack → ⊥) → AreLow m stack locals objects → AreLow m stack then_locals then_objects
   low_around m stack around low other object is = elim (then_local other object is) [
     | inl new ↦ (home, subst (λ (o : ℕ). LivesIn then_objects o home) (sym new.1) owns, λ of_call. absurd (around of_call))
     | inr old ↦ (let (region, lives, less) = low other object old.1 in (region, lives_more objects x object region lives, less))
   ]
 
-  -- After a declaration, the locals of its block have numbers below that of the next local to be declared.
+  -- After a declaration, the locals of its block have indices below that of the next local to be declared.
   pub low_after : (stack : List Entry) → AreLow number stack locals objects → AreLow (suc number) stack then_locals then_objects
   low_after stack low other object is = elim (then_local other object is) [
     | inl new ↦ (home, subst (λ (o : ℕ). LivesIn then_objects o home) (sym new.1) owns, λ of_call. (let e : other ≡ number = new.0 in omega (arith, e)))

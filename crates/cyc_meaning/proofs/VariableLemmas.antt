@@ -76,7 +76,8 @@ shut_set (q ∷ regions) (suc number) (suc region) r s there keep shut = shut_se
 
 -- ---- changes of the world
 
--- Says that after a change of the heap state objects stay in their regions, closed regions stay closed, and no further variable is live.
+-- Says what a change of the heap state preserves: live objects stay in their regions, closed regions stay closed, and no variable
+-- becomes live that was not live before the change.
 pub record Passes (objects : List Object) (regions : List Region) (more : List Object) (others : List Region) : Type 0 where
   pub lives : (object region : ℕ) → LivesIn objects object region → LivesIn more object region
   pub shut : (region : ℕ) → IsShut regions region → IsShut others region

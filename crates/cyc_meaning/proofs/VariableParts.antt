@@ -76,8 +76,8 @@ pub named_storing_at : {globals : ℕ} (place : Value) (v : Operand) (focus : Fo
 named_storing_at (Thin object offset) v focus stack e w plain = named_storing (cell_at w object offset) object offset v focus stack e w refl plain
 named_storing_at place v focus stack e w plain = Fails
 
--- Declaring the next local of a block keeps the invariant that live variables are globals or locals of active
--- calls; then the rest of the block follows.
+-- Declaring the next local of a block preserves the invariant that live variables are globals or locals of
+-- active calls. The run then continues with the rest of the block.
 pub names_local : {globals : ℕ} (a : Access Region) (number : ℕ) (given kind : Kind) (content : Option Value) (items : Items) (stack : List Entry) (e : Environment) (w : World) → region_at w e.home ≡ a
     → Silent globals (Needs (Initialise number given items) ∷ stack) e w (declared a Proceeding number kind content (Rest items ∷ stack) e w)
 names_local {globals} (Found r) number given kind content items stack e w found = Goes (λ h.

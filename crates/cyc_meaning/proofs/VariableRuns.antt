@@ -1,4 +1,5 @@
--- In every state of a run, each live variable of a block is a local of an active call, if local numbers increase along the text.
+-- In every state of a run, each live variable of a block is a local of an active call. The proof requires that the indices of
+-- locals increase along the program text.
 use Rattle.std.proofs.Common.{◌≡◌, ℕ, zero, suc, ◌≤◌, Bool, true, false, List, [], ◌∷◌, length, map, Option, Some, None, refl, sym, subst, inl, inr, arith}
 use Rattle.std.specs.Prelude.{◌==◌, ◌<◌, if◌then◌else◌, slice_get}
 use Rattle.std.proofs.lemmas.Bool.{cases_lt}
@@ -126,7 +127,7 @@ names_run program typed input n =
 
 -- ---- a local is not a global
 
--- Regions of blocks have greater numbers than the region of the globals.
+-- The region of a block has a greater index than the region of the globals.
 globals_least : (stack : List Entry) (bound : ℕ) → AreBelow bound (ends_of stack) → globals_number < bound
 globals_least [] bound below = below.0
 globals_least (CloseRegion ending home ∷ stack) bound (less, below) = let lower : globals_number < ending = globals_least stack ending below in omega (arith, less, lower)

@@ -1,4 +1,4 @@
--- Laws of the heap state: numbers of regions and objects are never reused.
+-- Laws of the heap state: the index of a region or object is never reused for another region or object.
 use Rattle.std.proofs.Common.{◌≡◌, ℕ, zero, suc, Bool, true, false, List, [], ◌∷◌, Option, Some, None, refl, sym, ap, subst, ◌∙◌}
 use Rattle.std.specs.Prelude.{if◌then◌else◌, slice_get}
 use Rattle.cyc_words.proofs.Items.{slice_get-set_related, slice_get_front, map-set}

@@ -58,8 +58,8 @@ begun (Found new) object count level kind element stack e w = Running (Repeating
 begun Closed object count level kind element stack e w = dead w
 begun Missing object count level kind element stack e w = wrong w
 
--- The length of a new array is checked, then its block is allocated. A negative length, which is a word of at least 2 ^ 31, is
--- also too long.
+-- The length of a new array is checked, then the array's block is allocated. A negative length is a word of at least 2 ^ 31,
+-- so it is rejected as too long.
 abbrev pub makes_array : Owner → (level : ℕ) → Kind → (element : Expression) → Value → List Entry → Environment → World → State
 makes_array owner level kind element (Int count) stack e w =
     if nat_le (words_for (count * bytes_of_kind kind)) most_words

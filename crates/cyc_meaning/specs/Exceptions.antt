@@ -1,7 +1,7 @@
 -- The meaning of exceptions. The built-in exceptions have the numbers 1 to 4; the exceptions that the program declares are numbered from 5
--- on, in order. Throwing an exception allocates nothing. A throw pops one control-stack entry after another, down to the body of a `try`,
--- and tries the clauses of the `try`, one per step. The end of a clause leaves the `try`; an exception that no clause catches propagates.
--- (Cyclone's exceptions, User's Manual 1.0; the numbers are this project's own choice.)
+-- on, in the order of their declarations. Throwing an exception allocates nothing. A throw pops one control-stack entry after another,
+-- down to the body of a `try`, and tries the catch clauses of the `try`, one per step. The end of a catch clause leaves the `try`; an
+-- exception that no catch clause catches propagates. (Cyclone's exceptions, User's Manual 1.0; the numbers are this project's own choice.)
 use Rattle.std.specs.Prelude.{ℕ, ◌==◌, if◌then◌else◌, List, ◌∷◌, Option, Some, None}
 use Rattle.cyc_types.specs.declared.typed.Kind.TheVariants as kinds
 use Rattle.cyc_types.specs.TypedTrees.{Expression, Statement, Items, Clauses, NoClauses, Default, Case}

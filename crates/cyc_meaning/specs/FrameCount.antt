@@ -1,5 +1,5 @@
--- The frame count: a bound on the number of words in a function's frame. The frame count is computed from the source only, so whether a
--- text is accepted does not depend on code generation. The count and its numbers are this project's own choice.
+-- The frame count: a bound on the number of machine words in a function's frame. The frame count is computed from the source only, so
+-- whether a text is accepted does not depend on code generation. The count and its numbers are this project's own choice.
 use Rattle.std.specs.Prelude.{ℕ, ◌+◌, max, List, [], ◌∷◌, Option, None, Some}
 use Rattle.cyc_types.specs.declared.typed.UnaryOperator.{UnaryOperator}
 use Rattle.cyc_types.specs.declared.typed.UnaryOperator.TheVariants as unary
@@ -26,8 +26,8 @@ operand_words (Value t) = words_of t
 abbrev pub converted_words : Converted → ℕ
 converted_words (Convert from to a) = max (words_of_kind from) (words_of_kind to)
 
--- The number of frame words for a pointer to an assigned cell, to an operand of `&`, or to an operand of a swap. A
--- cell that is only read needs no such words.
+-- The number of frame words for the pointer to a cell that is assigned, is an operand of `&`, or is an operand of
+-- a swap. A cell that is only read needs no such frame words.
 abbrev pub place_words : ℕ
 place_words = 3
 

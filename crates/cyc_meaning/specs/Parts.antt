@@ -69,8 +69,8 @@ abbrev pub stored_at : (place : Value) → Operand → Focus → List Entry → 
 stored_at (Thin object offset) operand focus stack e w = stored (cell_at w object offset) object offset operand focus stack e w
 stored_at place operand focus stack e w = wrong w
 
--- Writes the cells of a new object, or the two cells of a swap, one by one. After the cells are written, a value, if there is
--- one, is passed to the newest continuation.
+-- Writes the cells of a new object, or the two cells of a swap, one by one. After the cells are written, the result value of
+-- the expression, if there is one, is passed to the newest continuation frame.
 abbrev pub step_writing : List Write → Option Operand → List Entry → Environment → World → State
 step_writing [] (Some operand) stack e w = Running (Given operand) stack e w
 step_writing [] None stack e w = Running Proceeding stack e w

@@ -32,8 +32,8 @@ null_test negated (Thin object offset) = Gives (Int (truth negated))
 null_test negated (Fat object start count index) = Gives (Int (truth negated))
 null_test negated value = Misfits
 
--- Computes a pointer operator's result from the values of its operands. Comparing two thin pointers
--- also needs their objects, so their values alone do not decide the result.
+-- Computes a pointer operator's result from the values of its operands. Comparing two thin pointers requires a look at the objects to which
+-- they point, so the values of the pointers alone do not decide the result.
 abbrev pub pointer_result : PointerOperator → (left right : Value) → Result
 pointer_result operators.AddFat left (Int n) = moved (λ index. add_of index n) left
 pointer_result operators.SubtractFat left (Int n) = moved (λ index. sub_of index n) left

@@ -14,7 +14,7 @@ abbrev pub is_dynamic : Sort → Bool
 is_dynamic Dynamic = true
 is_dynamic sort = false
 
--- Declares a local with an initial value, and continues with the rest of its block.
+-- Declares a local with an initial value, and continues with the rest of the block that declares it.
 abbrev pub step_naming : (number : ℕ) → Operand → Items → List Entry → Environment → World → State
 step_naming number operand items stack e w =
     declared (region_at w e.home) Proceeding number operand.kind (Some operand.value) (Rest items ∷ stack) e w

@@ -17,8 +17,8 @@ steps program (suc n) s = steps program n (step program s)
 abbrev pub run : Program → (input : List ℕ) → ℕ → State
 run program input n = steps program n (start program input)
 
--- Says that a state is within the limits: a maximal number of pages of the store, and of active calls. A step that would exceed a limit
--- ends the run instead, with output and input as before the step.
+-- Says that a state is within two limits: a maximal number of pages of the heap store, and a maximal number of active calls. A step
+-- that would exceed a limit ends the run instead, with output and input as before the step.
 abbrev pub is_within : (pages calls : ℕ) → State → Bool
 is_within pages calls s = nat_le (demand s) pages && nat_le (depth s) calls
 

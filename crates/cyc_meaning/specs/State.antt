@@ -1,6 +1,6 @@
--- The state of a running program. Regions and objects have numbers that are never reused. A closed region or a freed object keeps its
--- number and its contents, and only a flag changes. The regions are those of Grossman et al. (2002). The form of the state, a focus and a
--- control stack, is the field's (CEK machines). Its entries are this project's own choice.
+-- The state of a running program. Regions and objects have indices that are never reused. A closed region or a freed object keeps its
+-- index and the values stored in it, and only a flag changes. The regions are those of Grossman et al. (2002). The form of the state, a
+-- focus and a control stack, is the field's (CEK machines). The entries of the control stack are this project's own choice.
 use Rattle.std.specs.Prelude.{ℕ, suc, ◌==◌, Bool, true, false, if◌then◌else◌, List, [], ◌∷◌, ◌++◌, map, Option, Some, None, slice_get, set}
 use Rattle.cyc_words.specs.Ending.{Ending}
 use Rattle.cyc_types.specs.declared.typed.Kind.{Kind}
@@ -50,7 +50,7 @@ pub record World : Type 0 where
   pub output : List ℕ
   pub input : List ℕ
 
--- The numbers of the regions that exist from the start of a run.
+-- The indices of the regions that exist from the start of a run.
 abbrev pub heap_number : ℕ
 heap_number = 0
 
@@ -136,8 +136,8 @@ written w object offset at value = record w {
 -- ---- calls
 
 -- The environment of the running call: the object of each of its locals, the region of the innermost block's variables, and the value
--- of each loop counter. A loop counter of an array initializer is not a variable. If a local is declared again, in another iteration of
--- a loop, it is another object.
+-- of each loop counter. A loop counter of an array initializer is not a variable. If the declaration of a local is executed again, in a
+-- later iteration of a loop, then the local gets a new object.
 pub record Environment : Type 0 where
   pub locals : ℕ → Option ℕ
   pub home : ℕ
@@ -166,7 +166,8 @@ pub data Awaiting : Type 0 where
   -- Waits for a value, and then converts it from the representation kind `from` to the kind `to`; a pointer must have the target `target`.
   ConvertTo : (from to : Kind) → (target : Option Kind) → Awaiting
   Operate : UnaryOperator → Awaiting
-  -- The remaining operators of a chain such as `a + b - c`. They wait for the value of everything to their left in the chain.
+  -- The remaining operators of a chain such as `a + b - c`. They wait for the value of the operators and operands to their
+  -- left in the chain.
   Chain : Operations → Awaiting
   -- Waits for the right operand of an operator, and then applies the operator to the left operand and this value.
   Apply : Operator → (left : Operand) → Awaiting
@@ -191,8 +192,8 @@ pub data Awaiting : Type 0 where
   CloseByKey : Awaiting
   -- Waits for the handle of the region in which `rnew` allocates.
   PlaceBy : Initial → Awaiting
-  -- Waits for an object that `rnew` allocates in a region. The region's handle is kept while the initial value is evaluated; then the
-  -- pointer to the object is passed to the next continuation.
+  -- Waits for an object that `rnew` allocates in a region. This continuation frame keeps the region's handle while the object's
+  -- initial value is evaluated; then the pointer to the object is passed to the next continuation frame.
   BesideHandle : (region : ℕ) → Awaiting
   -- Waits for the value of the only cell of a new object of the given kind, which will be allocated for the given owner.
   MakePlain : Owner → Kind → Awaiting
@@ -201,7 +202,7 @@ pub data Awaiting : Type 0 where
   -- Waits for the length of a new array, and then for each of its elements.
   MakeArray : Owner → (level : ℕ) → Kind → (element : Expression) → Awaiting
   FillElement : (object count index level : ℕ) → Kind → (element : Expression) → Awaiting
-  -- Waits for the initial value of a local, followed by the rest of its block.
+  -- Waits for the initial value of a local. After the local is declared, the rest of the local's block is executed.
   Initialise : (number : ℕ) → Kind → Items → Awaiting
   -- Waits for the condition of an `if` or of a `while`.
   Choose : Statement → Statement → Awaiting
@@ -232,7 +233,7 @@ pub data Entry : Type 0 where
   NeedsPlace : AwaitingPlace → Entry
   -- Waits for an expression that is evaluated for its effects: its value, if any, is dropped.
   Discard : Entry
-  -- The rest of a block, which is executed next.
+  -- The declarations and statements of a block that are still to be executed.
   Rest : Items → Entry
   -- The join point after the branches of an `if`.
   Join : Entry
@@ -272,10 +273,10 @@ pub data Focus : Type 0 where
   -- Opens the region of a call, and then declares its parameters from the given number on; the arguments are in order.
   Entering : Function → (arguments : List Operand) → Focus
   Binding : (number : ℕ) → List Ty → (arguments : List Operand) → (body : Items) → Focus
-  -- Declares a local with the given initial value, and continues with the rest of its block.
+  -- Declares a local with the given initial value, and continues with the rest of the block that declares it.
   Naming : (number : ℕ) → Operand → Items → Focus
-  -- Writes the cells of a new object, or the two cells of a swap, one by one. After the cells are written, a value, if there is one, is
-  -- passed to the newest continuation.
+  -- Writes the cells of a new object, or the two cells of a swap, one by one. After the cells are written, the result value of the
+  -- expression, if there is one, is passed to the newest continuation frame.
   Writing : List Write → Option Operand → Focus
   -- Allocates the block of an array of `count` elements, and then evaluates its elements one by one.
   Beginning : Owner → (count level : ℕ) → Kind → (element : Expression) → Focus

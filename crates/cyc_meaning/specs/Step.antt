@@ -100,7 +100,7 @@ abbrev pub counts : Option ℕ → List Entry → Environment → World → Stat
 counts (Some index) stack e w = gives kinds.Int (Int index) stack e w
 counts None stack e w = wrong w
 
--- Evaluates an expression. In this semantics a moved local also keeps its value, since the semantics does not track moves.
+-- Evaluates an expression. In this semantics a local keeps its value after the value was moved, since the semantics does not track moves.
 abbrev pub step_evaluating : Expression → List Entry → Environment → World → State
 step_evaluating (Number n) stack e w = gives kinds.Int (Int n) stack e w
 step_evaluating NullPointer stack e w = gives kinds.Nullable Null stack e w
@@ -180,7 +180,7 @@ abbrev pub converts : (from to : Kind) → (target : Option Kind) → Operand �
 converts from to target value stack e w =
     if is_kind value.kind from && leads_to w target (followed value.value) then computed to (conversion to value.value) stack e w else wrong w
 
--- Initializes a local with a value; then the rest of its block follows.
+-- Initializes a local with a value; then the rest of the local's block is executed.
 abbrev pub initialises : (number : ℕ) → Kind → Items → Operand → List Entry → Environment → World → State
 initialises number kind items value stack e w =
     if is_kind value.kind kind

@@ -46,7 +46,8 @@ kind_of (types.Handle region) = kinds.Handle
 kind_of (types.Key region) = kinds.Key
 kind_of (types.Struct number regions) = kinds.Int
 
--- Returns the number of a representation kind (int, char, pointer, ..); such kinds are compared by their numbers.
+-- Returns the number that identifies a representation kind (int, char, pointer, ..); two representation kinds are
+-- compared by these numbers.
 abbrev pub number_of_kind : Kind → ℕ
 number_of_kind kinds.Int = 0
 number_of_kind kinds.Nullable = 1

@@ -34,7 +34,7 @@ count-lexical r rs lexical = cond-true (is_lexical r.sort) (suc (lexical_count r
 count-other : (r : Home) (rs : List Home) → is_lexical r.sort ≡ false → lexical_count (r ∷ rs) ≡ lexical_count rs
 count-other r rs other = cond-false (is_lexical r.sort) (suc (lexical_count rs)) (lexical_count rs) other
 
--- If at least as many regions may stay open as there are lexical regions, then nothing is closed.
+-- If at least as many regions may stay open as there are lexical regions, then no region is closed.
 pub down-all : (rs : List Home) → down_to (lexical_count rs) rs ≡ rs
 down-all [] = refl
 down-all (r ∷ rs) = elim (cases_Bool (is_lexical r.sort)) [

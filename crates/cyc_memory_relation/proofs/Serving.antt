@@ -87,7 +87,7 @@ module _ (s : StoreState) (h a : ℕ) (b : Block) where
 
 -- ---- objects keep their places
 
--- Says that the words of blocks that are live before and after a request are kept.
+-- Says that a request to the heap store does not change the words of any block that is live before and after the request.
 pub record WordsStay (s r : StoreState) : Type 0 where
   pub sound : IsSound s
   pub after : AreWords r.memory

@@ -28,8 +28,8 @@ ghost use Rattle.cyc_memory_relation.specs.inside.Words.{byte_at, Points, IsPart
 ghost use Rattle.cyc_memory_relation.specs.inside.Related.{has_home, IsOfVariable, HasKinds, Alive, LiveVariable, AreApart, AreGlobals, Related};
 ghost use Rattle.cyc_memory_relation.specs.inside.Related.{scopes, IsNewest, closed_to};
 
-/// The relation between words and values is preserved when further objects are created and regions opened. The relation also holds for
-/// equal words that begin at another index.
+/// The relation between a value and the machine words that represent it still holds when further objects are created and further
+/// regions are opened. The relation also holds for equal words that begin at another index.
 pub fn words_stay_values()
     ensures grows { (t u : Tables) (kind : Kind) (v : Value) (words : ℕ → ℕ) (place : ℕ) → Grows t u → Is t kind v words place → Is u kind v words place }
     ensures same { (t : Tables) (kind : Kind) (v : Value) (words others : ℕ → ℕ) (place other : ℕ)

@@ -1,10 +1,10 @@
 //! Finds the faults of names, types, regions and flow that remain in a text once its first fault is repaired.
 //!
-//! The body of a function with a fault is replaced by one that throws an exception, which any function may have, and the remaining program
-//! is checked. Each reported fault is a fault of the program, and no fault in one body follows from a fault in another. A body that passed
-//! the type check is also replaced while those after it are checked. Each body is checked once, and once more before the flow check. All
-//! bodies share the signatures, so after a fault in a signature no further fault is reported, except that a missing or invalid `main` is
-//! replaced.
+//! A function body with a fault is replaced by one that only throws an exception, and the remaining program is checked. Such a body is
+//! valid in any function. Each reported fault is a fault of the program, and no fault in one body follows from a fault in another. A
+//! function body that passed the type check is also replaced while the bodies after it are checked. Each function body is checked once,
+//! and once more before the flow check. All function bodies share the signatures, so after a fault in a signature no further fault is
+//! reported. The one exception is a missing or invalid `main`, which is replaced by a valid `main`.
 //!
 //! If a text has no tokens or no syntax tree, the crate `cyc_rendering` reports the faults after the first one.
 
@@ -57,7 +57,7 @@ fn count_of_declarations(tokens: &[Token], declarations: &[Declaration]) -> usiz
     count
 }
 
-/// Returns the largest number of further type faults that are searched for after the first one.
+/// Returns the largest number of further type faults that the compiler tries to find after the first fault.
 fn most_by_types(alloc: Global, text: &[u8], declarations: &[Declaration]) -> Result<usize, Fault> {
     let tokens = ManuallyDrop::new(lex(alloc, text)?);
     let heads = count_of_declarations(&tokens, declarations);
@@ -152,8 +152,8 @@ impl Mended {
         }
     }
 
-    /// Replaces the body of the rejected declaration. Also replaces the bodies before it that are not replaced yet, and keeps them for
-    /// `put_back`.
+    /// Replaces the function body in which the checker found a fault. Also replaces the bodies of earlier functions that are not
+    /// replaced yet, and stores these earlier bodies for `put_back`.
     fn leave_out(&mut self, refused: usize, span: Span) -> Result<(), AllocError> {
         for declaration in self.next..refused {
             let items = self.thrown(span)?;
@@ -167,7 +167,7 @@ impl Mended {
         Ok(())
     }
 
-    /// Restores the bodies that `leave_out` has kept.
+    /// Puts the fault-free function bodies that `leave_out` replaced and stored back into the tree.
     fn put_back(&mut self) {
         let aside = replace(&mut self.aside, Vec::new(self.alloc));
         for Aside { declaration, items } in aside {
@@ -246,7 +246,7 @@ fn tell_types(
     let mut mended = ManuallyDrop::new(Mended::new(alloc, tree)?);
     let mut fault = first;
     for _ in 0..=most {
-        // Once the maximum number of faults is reported, no further fault is searched for.
+        // Once the maximum number of faults is reported, the checker is not run again to find a further fault.
         if reported.len() >= most || !mended.mend(fault)? {
             return Ok(());
         }
@@ -272,7 +272,7 @@ fn tell_types(
 
 // ---- all faults of a text
 
-/// Reports the further faults of a text that has a syntax tree.
+/// Reports the faults after the first one in a text that has a syntax tree.
 fn tell_bodies(
     alloc: Global,
     text: &[u8],

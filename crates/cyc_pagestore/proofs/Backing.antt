@@ -1,5 +1,6 @@
--- A pool of pages, together with the table's data stored outside the pool, represents a page table. The representation is kept when a
--- page is taken and when all pages are renumbered. In the lemmas the data of pages are functions from page numbers.
+-- A pool of pages, together with the data of the page table that are stored outside the pool, represents a page table. The pool still
+-- represents a page table after a page is taken and after all pages are renumbered. In the lemmas the data of pages are functions
+-- from page numbers.
 use Rattle.std.proofs.Common.{◌≡◌, ℕ, ◌<◌, true, false, List, [], ◌∷◌, length, refl, sym, ap, subst, ◌∙◌, inl, inr}
 use Rattle.std.specs.Prelude.{◌==◌, if◌then◌else◌}
 use Rattle.std.specs.List.{AllByRecursion}

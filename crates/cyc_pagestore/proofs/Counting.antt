@@ -136,7 +136,7 @@ module _ (x : TableState) (lexicals : List ℕ) (classes : List ClassSlots) (b :
     chain : HasChain s.kept.layout.pages r
     chain = s.kept.laid.paged.chains h r named
 
-    -- The pages of a region that is closed were counted among the pages in use.
+    -- Closing a region lowers the number of pages in use by the number of the region's pages.
     closed-demand : counts.pages ≡ demand (plain_store (record b { regions = without handle_of b.regions h })) + slice_index counts.regions root
     closed-demand =
         let paged = s.kept.laid.paged in

@@ -1,4 +1,4 @@
--- Taking the first page of a pool: pages that the pool returns before the first one are freed again.
+-- Taking page 0 of a pool: other pages that the pool returns before page 0 are freed again.
 use Rattle.std.proofs.Common.{◌≡◌, ℕ, zero, suc, ◌<◌, Bool, true, false, List, [], ◌∷◌, length, length-set, set, sym, ap, subst, ◌∙◌, inl, inr, arith, get_or-set_same, get_or-set_other}
 use Rattle.std.specs.Prelude.{slice_index_or}
 use Rattle.std.proofs.lemmas.Bool.{cases_eq}

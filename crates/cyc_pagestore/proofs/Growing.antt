@@ -1,4 +1,4 @@
--- The newest page of a region may be filled further, and a page may be added to the region.
+-- Proofs that more words of the newest page of a region may be allocated, and that a page may be added to the region.
 use Rattle.std.proofs.Common.{◌≡◌, ◌≢◌, ℕ, suc, ◌+◌, ◌<◌, false, List, [], ◌∷◌, ◌++◌, length, refl, sym, ap, subst, ◌∙◌, inl, inr, arith}
 use Rattle.std.specs.Prelude.{◌⊎◌}
 use Rattle.std.proofs.lemmas.Bool.{cases_eq}

@@ -23,7 +23,7 @@ use Rattle.cyc_pagestore.proofs.Fresh.{root-away, cut-backs, begun-backs}
 use Rattle.cyc_pagestore.proofs.Growing.{added-backs, filled-backs, newest-member}
 use Rattle.cyc_pagestore.proofs.Closing.{gives, closed-backs}
 
--- Replacing a row in the list of rows also replaces it in the function from page numbers to rows.
+-- Replacing a row (the data of one page) in the list of rows also replaces it in the function from page numbers to rows.
 rows-set : (rows : List Row) (page : ℕ) (r : Row) → page < length rows → ◌≡◌ {A = ℕ → Row} (λ p. row_at (set rows page r) p) (with_at (λ (p : ℕ). row_at rows p) page r)
 rows-set rows page r there = read-set rows page r (free_row NONE) there
 

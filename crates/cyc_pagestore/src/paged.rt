@@ -45,7 +45,7 @@ impl Model for PageStore {
 }
 
 /// Returns the index of the word at an address, if the word is among the store's first `count` words. One comparison tests all conditions
-/// on the address: a misaligned address, or one below the store, makes the computed index too large.
+/// on the address: if the address is misaligned or below the store, the computed index is too large.
 #[inline(always)]
 fn number_below(count: usize, address: u32) -> Option<u32>
     requires { count ≤ 0x400_0000 }
@@ -86,8 +86,8 @@ fn next_slot(slots: ClassSlots, table: &PoolTable, class: u32) -> (u32, ClassSlo
     }
 }
 
-/// Returns the size class of a block of `words` words. The function needs few tests if the block is large, because then the most
-/// mark bits of live words have to be written too.
+/// Returns the size class of a block of `words` words. The function needs few tests for a large block, because for a large block
+/// the most mark bits of live words must be written as well.
 #[inline]
 fn slot_class(words: u32) -> u32
     requires { words ≤ 1024 }

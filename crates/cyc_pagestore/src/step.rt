@@ -2,7 +2,7 @@
 
 use cyc_store::Role;
 
-/// A change of the rows of a page table, for contracts only.
+/// A change that one operation makes to the rows of a page table (a row has the data of one page). The type occurs only in contracts.
 #[derive(Clone, Copy)]
 pub enum Step {
     /// All pages were created as free pages.

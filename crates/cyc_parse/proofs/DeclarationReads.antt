@@ -187,7 +187,8 @@ module _ (room d : ℕ) (fits : Fits (suc (suc (suc room))) d) where
       assigned (Byte p n) ts rest (t, more, e, is_leaf, front) = ap (sees signs.Assign) e ∙ ap (λ (u : Terminal). sees_terminal signs.Assign (Some u)) is_leaf.terminal
       assigned (NullPointer p) ts rest (t, more, e, is_leaf, front) = ap (sees signs.Assign) e ∙ ap (λ (u : Terminal). sees_terminal signs.Assign (Some u)) is_leaf.terminal
 
-  -- The rest of a global variable or of a function, after its type, is parsed back from its yield.
+  -- The part of a global variable's or function's declaration after its type is parsed back from its yield (the symbols that it is written
+  -- as).
   global_reads : (t : WrittenType) (x : Named) (v : Option GlobalValue) → Reads (typed R t) (Global t x v) (leaf_at d (Identifier x.name) x.place ∷ (yields.optional (yields.global_value d) v ++ leaf_of d (Mark signs.Semicolon) ∷ [])) Always
   global_reads t x v = identifier_reads (suc R) d x _ fits (unseen_reads signs.LeftParen _ _ (λ ts rest front ends. no_paren v ts rest front)
       (then_reads _ (value_reads v) (sign_reads (suc R) d signs.Semicolon _ fits (λ p. pure_reads (Global t x v) Always))

@@ -141,7 +141,8 @@ no_limit left e h limit = absurd (subst IsLimit (sym (ap (λ (r : Refusal). r.re
 pub no_refusal : {P : Type 0} {A : Type 0} {e : Refusal} {r : A × List Symbol} → ◌≡◌ {A = Outcome A} (Ok r) (Err e) → P
 no_refusal h = absurd (cc)
 
--- If a sequence of two parsers rejects its input, then either the first parser rejects it, or the second rejects what the first leaves.
+-- If a sequence of two parsers rejects its input, then either the first parser rejects it, or the second parser rejects the symbols
+-- that the first leaves unread.
 pub data WasRefused {A B : Type 0} (p : Parser A) (f : A → Parser B) (ts : List Symbol) (e : Refusal) : Type 0 where
   in_first : p ts ≡ Err e → WasRefused p f ts e
   in_second : (x : A) (mid : List Symbol) → p ts ≡ Ok (x, mid) → f x mid ≡ Err e → WasRefused p f ts e

@@ -27,7 +27,7 @@ taken_parts room None give t ts rest y h = absurd (cc)
 taken_parts zero (Some a) give t ts rest y h = absurd (cc)
 taken_parts (suc r) (Some a) give t ts rest y h = (r, a, refl, refl, ap (answer_of y) h, ap left_of h)
 
--- If a limit rejects a symbol in the parser of one symbol, then that symbol is nested too deep.
+-- If the parser of a single symbol rejects the symbol because of a limit, then the symbol is nested too deep.
 too_deep : {A B : Type 0} (room : ℕ) (o : Option A) (give : A → Place → B) (t : Symbol) (ts : List Symbol) (e : Refusal) → accept_if room o give t ts ≡ Err e → IsLimit e.reason
     → (a : A) × (o ≡ Some a) × (e.left ≡ t ∷ ts)
 too_deep room None give t ts e h limit = no_limit (t ∷ ts) e h limit

@@ -46,8 +46,8 @@ module _ {c : Bool} (operand : Parser Expression) (h : Runs c Anything operand) 
   one_more left more tolerates None t a b less differ = opens NoOperations t refl tt less differ
   one_more left more tolerates (Some o) t a b less differ = beyond_suffix _ ((operand_runs left more tolerates o t.place).suffix a)
 
-  -- Says that chains of binary operators with a given number of operators have bounded lookahead.
-  -- They may also follow a result after which `<` may open region arguments.
+  -- Says that the parser of a chain of binary operators (such as `+ b + c`) with the given number of operators has bounded lookahead. The
+  -- chain may also follow an operand after which `<` may open region arguments.
   record Chains (left : ℕ) : Type 0 where
     runs : Runs false Anything (operations operand k left)
     tolerates : Tolerates Anything (operations operand k left)

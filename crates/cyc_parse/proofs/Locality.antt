@@ -1,6 +1,6 @@
 -- The parser's bounded lookahead: if the parser rejects a symbol or leaves it unread, it looks at no symbol after that one. The one
--- exception: `<` after `new` and a name opens region arguments if a region follows, and otherwise continues an expression. (After `char` at
--- the start of an item, the parser looks at one more symbol, but also reads it.)
+-- exception to bounded lookahead is a `<` after `new` and a name: it opens region arguments if a region follows, and otherwise continues an
+-- expression. (After `char` at the start of a block item, the parser looks at one more symbol, but also reads this symbol.)
 use Rattle.std.proofs.Common.{◌≡◌, ℕ, zero, suc, ◌+◌, ◌≤◌, ◌<◌, Bool, true, false, cond, List, [], ◌∷◌, ◌++◌, length, Option, Some, None, is_some, Ok, Err, refl, sym, ap, subst, ◌∙◌, arith, append_assoc, length-append}
 use Rattle.std.proofs.Math.Path.{fun_ext}
 use Rattle.cyc_syntax.specs.declared.tokens.Keyword.{Keyword}
@@ -44,8 +44,9 @@ IsLess t = t.terminal ≡ Mark signs.Less
 abbrev pub Differ : List Symbol → List Symbol → Type 0
 Differ a b = region_next a ≡ region_next b → ⊥
 
--- Says how an outcome depends on the end `a` of the symbols, if `a` may be replaced by `b`. `Open` says after which results `<` may
--- open region arguments. Either the parser reads into `a`, or it stops at a `<` right before `a`, which `b` continues differently.
+-- Says how a parser's outcome depends on the last symbols `a` of its input, if `b` may replace `a`. `Open` says after which results
+-- of the parser `<` may open region arguments. Either the parser reads all symbols in front of `a`, or it stops at a `<` right
+-- before `a`. After such a `<`, `b` continues differently than `a`.
 pub data Beyond {A : Type 0} (Open : A → Type 0) (a b : List Symbol) (o : Outcome A) : Type 0 where
   reads_on : (x : A) (rest : List Symbol) → o ≡ Ok (x, rest) → IsSuffix rest a → Beyond Open a b o
   refuses_on : (e : Refusal) → o ≡ Err e → IsSuffix (e.left) a → Beyond Open a b o

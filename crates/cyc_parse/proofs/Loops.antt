@@ -19,7 +19,8 @@ use Rattle.cyc_parse.specs.inside.Steps.{after_comma, one_pointer, one_postfix, 
 use Rattle.cyc_parse.specs.inside.Parsing.{Parser, Outcome, and_then, bind, pure, choose, next, advance, if_sees, sees, sign, identifier, if_is, on_some}
 use Rattle.cyc_parse.specs.inside.Declarations.{declaration, declarations_in}
 
--- Parses the rest of a list after one step of its loop.
+-- Parses what follows one iteration of the loop that parses a list. If the iteration parsed an element, this element is added to the result
+-- of `rest`; otherwise `last` parses the following symbols.
 abbrev pub following : {Y B : Type 0} → (Y → B → B) → Parser B → Parser B → Option Y → Parser B
 following add last rest None ts = last ts
 following add last rest (Some y) ts = and_then (rest ts) (λ b us. Ok (add y b, us))
@@ -145,8 +146,8 @@ pub pointers_of_steps : (room : ℕ) → Steps (λ m ms. m ∷ ms) (pure []) (on
 unfolding pointers_of choose if_is
 pointers_of_steps room = record { step = λ n ts. by_mark room (pointers_of room n) (mark_at (next ts)) ts }
 
--- Let parsing with `g` after a first step equal parsing with `f` and then `k`, for each result of
--- the step. Then the composed parsers that begin with the step are equal too.
+-- A first parsing step followed by `g` equals this step followed by `f` and then `k`, if `g` equals
+-- `f` and then `k` for each result of the step.
 pub lift : {A B C : Type 0} (k : C → Parser B) (o : Outcome A) (f : A → Parser C) (g : A → Parser B) → ((a : A) (us : List Symbol) → g a us ≡ and_then (f a us) k) → and_then o g ≡ and_then (and_then o f) k
 lift k (Ok p) f g h = h p.0 p.1
 lift k (Err e) f g h = refl

@@ -10,8 +10,8 @@ use Rattle.cyc_parse.specs.inside.Parsing.{Parser, Outcome, Unexpected, TooLong,
 use Rattle.cyc_parse.specs.inside.Declarations.{more_of, some_of}
 use Rattle.cyc_parse.proofs.Loops.{with_front, onto-map, regroup}
 
--- Says that `many` reads the rest of a list after an element, and `next` reads an element and the rest; their number argument bounds the
--- elements.
+-- Says that `many` parses the rest of a list after an element, and `next` parses an element and the rest of the list. The number passed
+-- to `many` or `next` bounds the number of elements.
 pub record Rounds {Y : Type 0} (item : Parser Y) (many next : ℕ → Parser (List Y)) : Type 0 where
   pub turn : (n : ℕ) (ts : List Symbol) → next (suc n) ts ≡ and_then (item ts) (λ y us. and_then (many n us) (λ ys vs. Ok (y ∷ ys, vs)))
 
@@ -103,7 +103,8 @@ comma_fails room begins item n (stops.Refused why) ts us h stopped =
     comma_decides room begins item n ts ∙ ap (λ (b : Bool). cond b (bind (sign room signs.Comma) (λ _. next_item room begins item n)) (pure []) ts) h
     ∙ ap (λ (o : Outcome Place). and_then o (λ _. next_item room begins item n)) stopped
 
--- After the last permitted comma of a list, a further element is rejected because the list is too long; any other symbol is unexpected.
+-- After the last permitted comma of a list, a symbol that begins a further element is rejected because the list is too long; any other
+-- symbol is rejected as unexpected.
 limit_by_test : {A : Type 0} (b : Bool) (ts : List Symbol) → Stops (stops.Refused (if b then reasons.TooLong else reasons.Unexpected)) (refuse {A = A} (if b then TooLong else Unexpected) ts) ts
 limit_by_test true ts = refl
 limit_by_test false ts = refl

@@ -28,7 +28,7 @@ code_of Unexpected (t ∷ ts) = codes.UnexpectedToken
 code_of TooDeep ts = codes.NestingTooDeep
 code_of TooLong ts = codes.ListTooLong
 
--- Returns the source position of the first of the given symbols, or the end of the text if there is none.
+-- Returns the source position of the first of the given symbols, or the end of the text if the list of symbols is empty.
 abbrev pub place_at : Place → List Symbol → Place
 place_at end [] = end
 place_at end (t ∷ ts) = t.place

@@ -52,8 +52,8 @@ abbrev pub region_next : List Symbol → Bool
 region_next symbols = starts begins_region (next symbols)
 
 -- After `new` and a name, `<` opens region arguments if a region follows the `<`; otherwise the `<` is an operator. The meaning of a `<`
--- after `new` and a name depends on the symbol after the `<`. `IsAlike` says that the symbols after a `<` are both regions, or neither is
--- one.
+-- after `new` and a name depends on the symbol after the `<`. `IsAlike` says of two continuations of a text after a `<` that both begin
+-- with a region or neither does.
 abbrev pub IsAlike : Symbol → List Symbol → List Symbol → Type 0
 IsAlike symbol back more = symbol.terminal ≡ Mark signs.Less → region_next more ≡ region_next back
 

@@ -249,7 +249,7 @@ impl<'a> Parser<'a> {
         Ok(Some(self.parse_value()?))
     }
 
-    /// Parses the rest of a global, after its type and its name.
+    /// Parses what follows the type and the name in the declaration of a global variable.
     fn parse_global(&mut self, of_type: WrittenType, name: Ident) -> Result<Declaration, Stop>
         ensures { Gives view_declaration result (global 200 (view_type of_type) (view_name name) self.old) self.new }
     {
@@ -262,7 +262,7 @@ impl<'a> Parser<'a> {
         })
     }
 
-    /// Parses the rest of a function, after its result type and its name.
+    /// Parses what follows the result type and the name in the declaration of a function.
     fn parse_function(
         &mut self,
         of_type: Option<WrittenType>,
@@ -282,7 +282,7 @@ impl<'a> Parser<'a> {
         })
     }
 
-    /// Parses the rest of a declaration, after its first type.
+    /// Parses what follows the type at the start of the declaration of a global variable or function.
     fn parse_typed(&mut self, of_type: WrittenType) -> Result<Declaration, Stop>
         ensures { Gives view_declaration result (typed 200 (view_type of_type) self.old) self.new }
     {
@@ -294,7 +294,7 @@ impl<'a> Parser<'a> {
         }
     }
 
-    /// Parses the rest of a struct, after its name and its regions.
+    /// Parses what follows the name and the region parameters in the declaration of a struct.
     fn parse_struct(&mut self, name: Ident, regions: Vec<Ident>) -> Result<Declaration, Stop>
         ensures { Gives view_declaration result (struct_fields 200 (view_name name) (map view_name regions.items) self.old) self.new }
     {

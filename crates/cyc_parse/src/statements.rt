@@ -90,7 +90,7 @@ impl<'a> Parser<'a> {
         })
     }
 
-    /// Parses the rest of a statement, after its first expression.
+    /// Parses what follows the first expression of a statement: the rest of a swap, or the semicolon of an expression statement.
     fn parse_rest_of_statement(&mut self, room: u32, value: Box<Expr>) -> Result<Stmt, Stop>
         ensures { Gives view_statement result (following room (nested_statements room) (view_boxed value) self.old) self.new }
     {

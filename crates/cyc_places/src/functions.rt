@@ -22,7 +22,7 @@ fn goes_on(begun: Option<Begun>, number: Option<usize>) -> bool {
     }
 }
 
-/// Returns the function with the given index as one that begins at an address; `None` if the code there belongs to no function.
+/// Returns a function's index together with the address at which the function begins; `None` if no function has its code at this address.
 fn begun_at(number: Option<usize>, address: u32) -> Option<Begun> {
     match number {
         Some(number) => Some(Begun { number, address }),

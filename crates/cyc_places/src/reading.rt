@@ -165,8 +165,8 @@ fn read_name(alloc: Global, name: &[u8], has_int: bool) -> Result<Named, Unread>
     })
 }
 
-/// Returns the part of the text that a line describes: after its first word, the line has two numbers and a
-/// file name, which may contain spaces.
+/// Returns the stretch of program text, taken from another file, that a line of the file of places
+/// describes. After its first word, such a line has two numbers and a file name, which may contain spaces.
 fn part_in(alloc: Global, line: &[u8]) -> Result<Elsewhere, Unread> {
     let first = small_in(word_in(line, 1), 10).ok_or(Unread::Malformed)?;
     let begin = small_in(word_in(line, 2), 10).ok_or(Unread::Malformed)?;

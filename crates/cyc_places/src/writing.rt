@@ -61,7 +61,7 @@ impl PlacesText<'_> {
     fn number_at(&self, span: Span) -> usize {
         let mut low: usize = 0;
         let mut high = self.tokens.len();
-        // Binary search: each iteration halves the range.
+        // Binary search: each iteration halves the range of tokens that remains to be searched.
         for _ in 0..usize::BITS {
             let middle = low.saturating_add(high.saturating_sub(low) / 2);
             match self.tokens.get(middle) {

@@ -240,7 +240,7 @@ plain_places = refl
 
 -- ---- comparisons of a branch, and constant operands
 
--- Runs a program that returns 1 if the branch on these two words is taken, otherwise 0.
+-- Returns the exit status of a program that returns 1 if a branch is taken that compares the two given words, otherwise 0.
 abbrev of_branch : Comparison → ℕ → ℕ → Status
 of_branch comparison a b =
     status_of (after 4 1 (program (Branch comparison (Word a) (Word b) 3 ∷ Move 0 (Word 0) ∷ Return 0 ∷ Move 0 (Word 1) ∷ Return 0 ∷ [])) [])

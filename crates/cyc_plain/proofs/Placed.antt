@@ -218,7 +218,7 @@ module _ (program : Program) (well : IsWellFormed program) (choice : Choice) (c 
   executes (Some i) at = performs i at (All_at (IsInRange program here) here.code c.active.next i routine.instructions at)
   executes None at = tt
 
--- A step from a state whose next instructions lie in the code leads to another such state.
+-- If the next instruction of the active call and of each waiting call lies in its function's code, then this also holds after one step.
 pub placed_step : (program : Program) (choice : Choice) (s : State) → IsWellFormed program → IsPlaced program s → IsPlaced program (step program choice s)
 placed_step program choice (Running c) well ((inside, next), handling, waiting) = executes program well choice c inside next handling waiting (instruction_at program (place_of (Running c))) refl
 placed_step program choice (Ended ending output input) well placed = tt

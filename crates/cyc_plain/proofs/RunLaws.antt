@@ -61,7 +61,8 @@ pub limit_free : (i : Instruction) (calls : ℕ) → calls_nothing i ≡ true �
 limit_free (instructions.Enter function) calls free = absurd (let e : false ≡ true = free in cc)
 limit_free i calls free = refl
 
--- A step to a state within the limits is the step without limits. A step to any other state ends the run instead.
+-- A step to a state within the limits on pages and active calls is the same as on the machine without limits. A
+-- step to a state beyond these limits ends the run instead.
 pub limited-within : (pages calls : ℕ) (old new : State) → is_within pages calls new ≡ true → limited pages calls old new ≡ new
 limited-within pages calls old new within = ap (λ (b : Bool). if b then new else Ended Full (output_of old) (input_of old)) within
 

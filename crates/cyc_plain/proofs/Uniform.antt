@@ -90,6 +90,7 @@ module _ (program : Program) (none : AsksNoRoom program) (pages calls : ℕ) whe
     way met now (inl u) = inl (record { places = u.places; state = u.state; path = u.path; running = u.running; goes_on = u.goes_on; ahead = u.ahead; following = u.following; cost = u.cost })
     way met now (inr o) = inr (record { places = o.places; state = o.state; path = o.path; ending = o.ending; ended = o.ended; over = o.over; seen = o.seen })
 
-    -- A simulation proved for the machine with uniform limits of calls also holds for the plain machine itself.
+    -- The uniform machine has the same limit of active calls at each instruction. A simulation proved for the
+    -- uniform machine also holds for the plain machine.
     pub follows_uniform : Follows above (uniform_machine program pages calls) before own start from → Follows above (machine program pages calls) before own start from
     follows_uniform f = record { runs = λ met now path. way met now (f.runs met now (path_uniform met from now path)) }

@@ -43,9 +43,9 @@ pub fn output_grows()
         → (read : List ℕ) × (input_of old ≡ read ++ input_of new) }
 {}
 
-/// From every state there is a step, with two exceptions: the instruction calls a function and the stack has no space for its slots, or
-/// it makes a request that the store serves. (For a request, the relation describes the allowed results, and the store promises that one
-/// exists.)
+/// From every state there is a step, with two exceptions. Either the instruction calls a function and the stack has no space for the
+/// function's slots, or the instruction makes a request that the store serves. (For a request to the store, the step relation describes
+/// the allowed results, and the store promises that one exists.)
 pub fn steps_go_on()
     ensures free { (program : Program) (pages calls : ℕ) (old : State) → asked program old ≡ None → called program old ≡ None
         → (new : State) × Step program pages calls old new }
@@ -151,7 +151,7 @@ pub fn words_have_addresses()
         → memory_at program c (f.caller.base + 4 * slot) ≡ Some (f.caller.slots slot) }
 {}
 
-/// The code position of each instruction is among the program's listed positions.
+/// The list `places_of` of a program contains the code position of each instruction.
 pub fn places_are_listed()
     ensures { (program : Program) (place : CodePlace) (i : Instruction) → instruction_at program place ≡ Some i
         → Contains (places_of program) place }

@@ -87,7 +87,7 @@ module _ (program : Program) where
         go OfStore OfSlots = refl
         go OfSlots other = slots_other (slot_at program c.active a) refl other
 
-    -- If memory has a word at an address, it has the stored word there after a store to this address.
+    -- If memory has a word at an address, then after a store to this address it has the stored word at this address.
     pub memory_there : (old : ℕ) → memory_at program c a ≡ Some old → memory_at program (with_memory program c a word) a ≡ Some word
     memory_there old found = go (range_of a) found
       where

@@ -163,7 +163,7 @@ module _ (program : Program) (rooms : (function index : ℕ) → ℕ) (tables : 
     branched true target there next = ((there, handling), waiting)
     branched false target there next = ((next, handling), waiting)
 
-    -- If an instruction falls through, the stack space stated for the next instruction is available there.
+    -- If control falls through from an instruction to the next one, the stack space that the analysis states for the next one is available.
     on : (i : Instruction) → StandsHere i → room_of (slots_in program) i ≡ 0 → leads i c.active.next (c.active.next + 1) ≡ true → HasRoomAt (c.active.next + 1)
     on i at none led = room_led i at (subst (λ (room : ℕ). HasRoom calls room c.active.base (suc (length c.frames))) (sym none) tt) (c.active.next + 1) led
 

@@ -292,8 +292,8 @@ module _ (program : Program) (r s : Routine) (pinned : List Bool) (entry : ℕ �
         well = subst (λ (x : Instruction). is_checked_at program pinned entry (table index) x index ≡ true) (sym same) (checked index i there);
       }
 
-  -- The table's facts at the next position are those required there if it is a jump target, otherwise those known
-  -- after the replaced instruction.
+  -- If the next position is a jump target, the table's facts at the next position are those required at the jump target. Otherwise the
+  -- table's facts at the next position are those known after the instruction that replaces the current one.
   next_table : (index : ℕ) (j : Instruction) → StandsFor index j → table (suc index) ≡ entered_or (entry (suc index)) (after_put program pinned (table index) j index)
   next_table index j stands =
       ap (λ (o : Option Instruction). entered_or (entry (suc index)) (facts_after_place program pinned (table index) o index (length r.code))) stands.at

@@ -109,7 +109,8 @@ all_tailless code last count made is are all = record { last = last; is_last = i
 
 -- ---- one function
 
--- Returns the facts at a code position: the fact `never` if it is after the last reachable position, otherwise none.
+-- Returns the facts at a code position: the fact `never` (the position is unreachable) if the position is after the
+-- last reachable one, otherwise no fact.
 abbrev known_beyond : (last index : ℕ) → List Fact
 known_beyond last index = if nat_lt last index then never ∷ [] else []
 

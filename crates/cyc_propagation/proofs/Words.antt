@@ -1,4 +1,4 @@
--- The numbers in a replaced instruction fit machine words.
+-- The numbers in an instruction that replaces an instruction of the program fit machine words.
 use Rattle.std.proofs.Common.{◌≡◌, ℕ, ◌^◌, Bool, true, false, List, [], ◌∷◌, Option, Some, None, arith}
 use Rattle.std.specs.Prelude.{nat_lt}
 use Rattle.std.proofs.lemmas.Bool.{and_parts, cond_both, ltb-true}
@@ -99,7 +99,7 @@ module _ (pinned : List Bool) where
   fold_known facts operator destination left right all one other =
       cond_both (may_fold destination left right) (folded_in facts operator left right) None IsWordIfAny (λ may. folded_known facts operator left right all one other) (λ stays. tt)
 
--- The numbers in a simplified instruction fit machine words.
+-- If the numbers in an instruction fit machine words, so do the numbers in the simplified instruction.
 module _ (pinned : List Bool) (facts : List Fact) (all : are_suited pinned facts ≡ true) where
   of_word : (operand : Operand) → IsOfWord operand → IsOfWord (simplified_operand facts operand)
   of_word operand is = operand_has pinned IsOfWord (word_suits pinned) facts operand all is

@@ -110,7 +110,7 @@ fn is_copy(copies: Copies, operand: Operand) -> bool {
     }
 }
 
-/// Returns true if one of two operands is a copied slot, so that the original slot can be read instead.
+/// Returns true if one of two operands is a slot that holds a copy of another slot, so that the other slot can be read instead.
 fn has_copy(copies: Copies, left: Operand, right: Operand) -> bool {
     is_copy(copies, left) || is_copy(copies, right)
 }

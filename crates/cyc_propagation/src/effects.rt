@@ -70,7 +70,7 @@ fn remember_test(
     }
 }
 
-/// Adds the fact about the result of an operator, if there is one.
+/// Adds the fact that states how an operator computed the value of its destination slot, if there is such a fact.
 fn remember_result(
     pinned: &[bool],
     facts: &mut Facts,

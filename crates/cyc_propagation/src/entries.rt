@@ -29,11 +29,11 @@ struct Head {
 pub(crate) struct Region {
     first: usize,
     pub(crate) end: usize,
-    /// True if the code region contains a loop header, so that its facts are searched for.
+    /// True if the code region contains a loop header, so that the unverified search must find the facts at its positions.
     pub(crate) is_searched: bool,
 }
 
-/// The search for the facts at the positions of a function's code.
+/// The state of the unverified search for the facts at the positions of a function's code.
 #[derive(Drop)]
 pub(crate) struct Search {
     heads: Vec<Head>,
@@ -44,7 +44,7 @@ pub(crate) struct Search {
     before: Vec<Fact>,
     /// The current region.
     pub(crate) region: Region,
-    /// True if the search makes only one pass, after which the facts guessed for loop headers are right or dropped.
+    /// True if the search makes only one pass over a code region; after that pass the facts guessed for loop headers are right or dropped.
     is_short: bool,
 }
 
@@ -309,8 +309,8 @@ impl Search {
         Ok(())
     }
 
-    /// Finds the facts at each jump target of a code region. If a search limited to one pass changes facts at a loop
-    /// header, only the facts at loop headers are kept. The checking traversal then finds the other facts.
+    /// Finds the facts at each jump target of a code region. If a search limited to one pass changes facts at a loop header, only the facts
+    /// at loop headers are retained. The checking traversal then finds the facts at the other jump targets.
     fn settle(
         &mut self,
         plain: &Plain,
@@ -340,7 +340,7 @@ impl Search {
         place >= self.region.end && !self.heads.is_empty()
     }
 
-    /// Begins a code region at a position with these known facts. After the last loop header, the rest of the code is one region.
+    /// Begins a code region at a position where the given facts are known. The code after the last loop header forms one region.
     pub(crate) fn begin(
         &mut self,
         plain: &Plain,

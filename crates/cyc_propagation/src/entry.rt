@@ -13,7 +13,8 @@ use cyc_plain::Instruction;
 use std::alloc::{AllocError, Global};
 use std::mem;
 
-/// The most facts searched for at a jump target, since each jump on a path to the target may add one fact.
+/// The maximal number of facts recorded for a jump target. This maximum is greater than elsewhere, since
+/// each jump on a path to the target may add one fact.
 const MOST_ENTRY_FACTS: usize = 4 * MOST_FACTS;
 
 /// The facts at a position in the code.
@@ -88,8 +89,8 @@ pub(crate) fn enter(entries: &[Entry], place: usize, facts: &mut Facts) -> Resul
     Ok(())
 }
 
-/// Removes the facts that do not follow from the known ones. Returns true if none was removed. The search is fastest if both lists have
-/// their facts in the same order.
+/// Removes the facts required at a jump target that do not follow from the known facts. Returns true if no fact was removed. Looking up
+/// the required facts among the known facts is fastest if both lists have their facts in the same order.
 fn restrict(asked: &mut Vec<Fact>, facts: &[Fact], more: Option<Fact>) -> bool
     ensures less { entries_of.IsLess asked.old.items asked.new.items }
     ensures known { table.are_known asked.new.items facts.now more ≡ true }
@@ -111,7 +112,7 @@ fn restrict(asked: &mut Vec<Fact>, facts: &[Fact], more: Option<Fact>) -> bool
 }
 
 /// Adds the fact that a branch establishes, if there is one, to the facts recorded for the branch target. If
-/// the list is full, the oldest fact is dropped.
+/// the recorded list already has the maximal number of facts, the oldest fact is dropped.
 #[tactic(auto, using(crate::proofs::Entered::known_of_itself, crate::proofs::Entered::known_with_one, crate::proofs::Entered::known_without_first,))]
 fn remember_more(known: &mut Vec<Fact>, more: Option<Fact>) -> Result<(), AllocError>
     ensures { OnOk result (table.are_known known.new.items known.old.items more ≡ true) }

@@ -20,9 +20,11 @@ const ANY_SLOT: u64 = u64::MAX;
 #[derive(Drop)]
 pub(crate) struct Facts {
     facts: Vec<Fact>,
-    /// The bits of slots known to equal other slots. A slot that equals no other one may share such a bit.
+    /// A bit mask of the slots known to equal other slots: slot n has bit n modulo 64. A slot that equals
+    /// no other slot may have the same bit as one that does.
     copies: u64,
-    /// The bits of all slots that occur in the facts. A slot that occurs in no fact may share such a bit.
+    /// A bit mask of all slots that occur in the facts: slot n has bit n modulo 64. A slot that occurs in
+    /// no fact may have the same bit as one that does.
     slots: u64,
 }
 
@@ -114,8 +116,8 @@ fn slots_in(facts: &[Fact]) -> u64
     slots
 }
 
-/// Returns the bits of the slots that occur in the facts known after an instruction, before which there were `count` facts. The bits are
-/// recomputed only if one slot was written and a fact was dropped, since slots share bits.
+/// Returns the bit mask of the slots that occur in the facts known after an instruction, before which there were `count` facts. The bit
+/// mask is recomputed only if one slot was written and a fact was dropped, since several slots share one bit.
 fn slots_after(slots: u64, facts: &[Fact], written: Written, count: usize) -> u64
     ensures { AreAbout slots facts.now → AreAbout result facts.now }
 {

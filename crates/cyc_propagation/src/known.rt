@@ -433,12 +433,13 @@ pub(crate) fn follows_found(facts: &[Fact], more: &Option<Fact>, fact: &Fact, pl
     place < facts.len() || (is_more(*more, *fact) || follows(facts, *more, *fact))
 }
 
-/// Returns the index at which the search for the next fact begins: after the fact that was found last.
+/// Returns the index in the list of known facts at which the search for the next fact begins: after the fact that was found last.
 pub(crate) fn next_place(facts: &[Fact], place: usize, next: usize) -> usize {
     if place < facts.len() { place + 1 } else { next }
 }
 
-/// Returns true if all required facts are known. The search is fastest if both lists have their facts in the same order.
+/// Returns true if all required facts are known. Looking up the required facts among the known facts is fastest if both
+/// lists have their facts in the same order.
 pub(crate) fn are_known(asked: &[Fact], facts: &[Fact], more: Option<Fact>) -> bool
     ensures { result ≡ table.are_known asked.now facts.now more }
 {

@@ -1,4 +1,5 @@
-//! The slots of a function whose address is taken. A store instruction may change such a slot, so no fact about it is kept.
+//! The slots of a function whose address is taken. A store instruction may change a slot whose address is taken, so no fact
+//! about such a slot is recorded.
 ghost use Rattle.std.specs.Prelude.{◌≡◌, IfOk};
 ghost use Rattle.cyc_plain.specs.inside.Program.{routine_of};
 ghost use Rattle.cyc_propagation.specs.inside.Facts as facts_of;

@@ -611,8 +611,8 @@ pub(crate) fn simplified_instruction(facts: &Facts, instruction: Instruction) ->
     }
 }
 
-/// Returns true if an instruction may be dropped when it is unreachable. An instruction that takes the address of slots is kept, so
-/// that the set of these slots is unchanged.
+/// Returns true if an instruction may be dropped when it is unreachable. An instruction that takes the address of slots is not
+/// dropped, so that the set of slots whose address is taken is unchanged.
 pub(crate) fn may_vanish(instruction: Instruction) -> bool
     ensures { result ≡ replacement.may_vanish instruction }
 {

@@ -9,7 +9,7 @@ use std::alloc::{AllocError, Global};
 /// More stack space than any call requires.
 const MOST_ROOM: usize = usize::MAX;
 
-/// The most passes over the code in the search for known stack space.
+/// The maximal number of passes over the code in the search for the stack space known at each position.
 const ROUNDS: usize = 4;
 
 /// Returns the stack space that a call of a function requires, represented by its number of slots plus one.
@@ -107,8 +107,8 @@ fn spared_instruction(
     }
 }
 
-/// Lowers the stack space known at a code position to at most `room`. Returns true if the stack space known there was at most `room`
-/// already.
+/// Lowers the stack space known at a code position to at most `room`. Returns true if the stack space known at that position was
+/// already at most `room`.
 fn restrict(rooms: &mut Vec<usize>, place: usize, room: usize) -> bool {
     if let Some(known) = rooms.get_mut(place) {
         if room < *known {

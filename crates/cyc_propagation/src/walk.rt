@@ -72,8 +72,8 @@ fn goes_well(entries: &[Entry], following: &[Fact], instruction: Instruction, in
     }
 }
 
-/// Updates the known facts to those at the next position, if no jump goes there. After an instruction that never falls through, the
-/// next position is unreachable.
+/// Updates the known facts to those at the next position, if no jump has the next position as its target. After an instruction that
+/// never falls through, the next position is unreachable.
 pub(crate) fn come_after(
     plain: &Plain,
     pinned: &[bool],
@@ -351,8 +351,8 @@ fn instruction_at(function: &Function, index: usize) -> Instruction
     function.code[index]
 }
 
-/// Returns the code of a function, each instruction simplified under the facts at its position, if the facts that the search found pass
-/// the check.
+/// Returns the code of a function, in which each instruction is simplified under the facts known at its position. There is a result
+/// only if the facts that the unverified search found pass the check.
 fn walked(
     alloc: Global,
     plain: &Plain,

@@ -1,4 +1,5 @@
--- A shared reference to the cells exists if there is a shared reference to each word. The proof assumes the program logic `Logic`.
+-- A shared reference to a list of memory cells exists if there is a shared reference to the word in each cell that contains one.
+-- The proof assumes the program logic `Logic`.
 use Rattle.std.specs.Prelude.{ℕ, ◌+◌, List, [], ◌∷◌, Option, Some, None}
 use seplogic.Ra.Ura.{Ura}
 use base.Fml.{Lft, ftrue, ffalse}

@@ -52,7 +52,8 @@ written-set cs end i w low there is = record {
   blank = λ k past. get_or-set_other cs i k (Some w) None (λ e. omega (arith, e, low, past)) ∙ is.blank k past;
 }
 
--- If 0 is written to each cell before `end` of an empty list, the cells before `end` contain words and the others are empty.
+-- If 0 is written to each cell before index `end` of a list of empty cells, the cells before `end` contain words and the
+-- other cells stay empty.
 pub written-first : (n end : ℕ) (cs : List (Option ℕ)) → ((i : ℕ) → 0 ≤ i → i < end → get_or cs i None ≡ Some 0) → ((i : ℕ) → end ≤ i → get_or cs i None ≡ get_or (empty n) i None) → AreWritten cs end
 written-first n end cs cleared above = record {
   filled = λ i below. (0, cleared i (omega arith) below);

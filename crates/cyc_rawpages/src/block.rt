@@ -105,7 +105,7 @@ impl Block {
         }
     }
 
-    /// Returns the number of words after the header words that are initialised, counted from the first of them.
+    /// Returns the number of initialised words of the block after its header words, counted from the first word after the header words.
     #[inline]
     pub fn made(&self) -> usize
         ensures is { result ≡ self.now.made }

@@ -1,6 +1,6 @@
 //! The effect of a call of a pool function on the free pages and the chains of the pool.
 
-/// A change of the free pages and the chains of a pool, made by one call of a pool function.
+/// A change of the free pages of a pool and of its chains (lists of linked pages), made by one call of a pool function.
 #[derive(Clone, Copy)]
 pub enum Change {
     /// All pages were created; each page is free.

@@ -4,7 +4,8 @@ ghost use Rattle.std.specs.Int.{bit_at};
 ghost use Rattle.std.specs.Prelude.{◌==◌, if◌then◌else◌, ◌≡◌, ◌≢◌, ℕ, ◌+◌, ◌*◌, ◌<◌, ◌≤◌, ◌⊎◌};
 ghost use Rattle.cyc_rawpages.specs.inside.Pool.{header_at, bits_at};
 
-/// The number of words of a page. A page also has this number of bits, one for each word.
+/// The number of words of a page. Each page also has this number of bits, one for each of its words, whose meaning is up to the pool's
+/// caller.
 pub const PAGE_WORDS: u32 = 1024;
 
 /// The number of words in the header of a page.

@@ -26,7 +26,7 @@ impl Roll {
         Roll {}
     }
 
-    /// Returns, for contracts only, the free pages and the chains of a pool after a change.
+    /// Returns, for contracts only, the free pages of a pool and its chains (lists of linked pages) after a change.
     pub(crate) fn with(_before: &Roll, _change: &Change) -> Roll
         ensures { result.lists ≡ after _before.now.lists _change.now }
     {

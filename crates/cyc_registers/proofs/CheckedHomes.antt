@@ -108,8 +108,8 @@ module _ (program : Program) (r : Routine) (masks live holders : List ℕ) (call
         let parts = and_parts (nat_le FIRST_REGISTER k) (nat_lt k (FIRST_PRESERVED + saved)) is in
         (leb-true FIRST_REGISTER k parts.0, ltb-true k (FIRST_PRESERVED + saved) parts.1)
 
-    -- A slot that the liveness table does not contain at the function's entry is not live there. A candidate for a register that is live at
-    -- the entry is a parameter.
+    -- A slot that the liveness table does not contain at the function's entry is not live at the entry. If a slot that may be in a register
+    -- is live at the function's entry, the slot is a parameter.
     only_parameters : (j : ℕ) → HasBit masks slot j → IsEntered → IsLiveAt program r slot 0 → slot < r.parameters
     only_parameters j has (inl below) wanted = below
     only_parameters j has (inr none) wanted =
@@ -298,8 +298,8 @@ module _ (program : Program) (r : Routine) (masks live holders : List ℕ) (call
           ]
         ]
           where
-            -- A slot that is in a register only is not live in an exception handler. If such a slot is live at a
-            -- code position or in a handler, it is live at the position.
+            -- A slot that is in a register and not in memory is not live in an exception handler. If such a slot
+            -- is live at a code position or in a handler opened there, it is live at the position.
             now : (slot k : ℕ) → HasRegister hs slot k → is_kept (home_of hs slot) ≡ false → IsLiveLater program r slot index → IsLiveAt program r slot index
             now slot k its unkept (inl here) = here
             now slot k its unkept (inr (at_try, first, handler, at, wanted)) = absurd (both_ways (is_kept (home_of hs slot)) unkept ((each slot).clause at_try first handler at wanted))

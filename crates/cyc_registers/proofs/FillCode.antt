@@ -87,7 +87,8 @@ by_register holders (homes.Register register) k has = ap (mask_at holders) (let 
 
 module _ (program : Program) (r : Routine) (masks live holders : List ℕ) (calls clauses barred : ℕ) (sound : IsSound program r masks live calls clauses barred)
     (are : AreMasks masks MOST_CHOSEN) (hs : List Home) (right : AreHolders masks holders hs) where
-  -- If no slot that `holders` lists for a slot's register is live after a code position, no slot with that register is live there.
+  -- For each register, `holders` has a bit mask of the slots assigned to it. If no slot in the mask of a given slot's register is
+  -- live after a code position, no slot with that register is live there.
   free : (index slot a k : ℕ) → is_free holders live hs index slot ≡ true → HasRegister hs slot k → HasRegister hs a k → IsLiveAt program r a (suc index) → ⊥
   free index slot a k is has has_a wanted =
       let (j, bit) = are.some a (right a k has_a).0 in

@@ -18,10 +18,12 @@ const REGISTERS: usize = REGISTERS_END as usize;
 
 const SLOTS: usize = MOST_CHOSEN as usize;
 
-/// The cost of using a callee-saved register: each call of the function saves and restores it, and a caller may have to save it too.
+/// The cost of using a callee-saved register: each call of the function saves and restores the register, and a function that calls
+/// this function may also have to save it.
 const PRESERVED_PRICE: u64 = 4;
 
-/// The extra cost of a register for a parameter, which is passed in memory and loaded from there.
+/// The extra cost of a callee-saved register for a parameter: callers pass this parameter in memory, and the function must load it from
+/// memory.
 const ARRIVAL_PRICE: u64 = 2;
 
 /// The maximal number of times that a slot is considered for a register: once for each kind of register that it may get, and once more.
@@ -150,7 +152,7 @@ impl Candidate {
 }
 
 impl Registers {
-    /// Returns true if the register is caller-saved and none of the slots in the set `others` has it.
+    /// Returns true if the register is caller-saved and is assigned to none of the slots in the set `others`.
     fn is_open(&self, register: u8, others: u64) -> bool {
         (FIRST_REGISTER..FIRST_PRESERVED).contains(&register)
             && mask_at(&self.slots, register as usize) & others == 0
@@ -246,8 +248,8 @@ impl Registers {
         }
     }
 
-    /// Returns the best caller-saved register for a slot. A slot live after a call keeps its word in memory too, and shares its
-    /// register with no slot.
+    /// Returns the best caller-saved register for a slot. If the slot is live after a call, its word is also stored in memory,
+    /// and no other slot gets its register.
     fn lost_offer(&self, candidate: &Candidate) -> Offer {
         let is_both = candidate.is_both;
         if is_both && self.both >= MOST_BOTH {
@@ -384,7 +386,8 @@ impl Registers {
         }
     }
 
-    /// Notes that the slots of a set, passed at one index of an argument or parameter list, prefer the register for that index.
+    /// Records that the slots of a set should preferably get the register in which a call passes the argument or parameter with
+    /// the given index.
     fn want(&mut self, mask: u64, place: Option<usize>) {
         match place {
             Some(place) if place < MOST_LOST => {

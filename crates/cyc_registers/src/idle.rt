@@ -115,7 +115,8 @@ fn home_at(homes: &[Home], slot: usize) -> Home
     }
 }
 
-/// Returns true if the word that a move copies is already in the destination slot's register, and this slot is not also in memory.
+/// Returns true if the word that a move copies is already in the destination slot's register, and the destination slot has its
+/// word only in this register, not also in memory.
 fn is_there(homes: &[Home], slot: usize, source: Operand) -> bool
     ensures { result ≡ checks.is_there homes.now slot source }
 {
@@ -196,7 +197,8 @@ fn leads_over(idle: &[bool], instruction: Instruction, index: usize) -> bool
     }
 }
 
-/// Returns the instructions of a function that need no machine code, except jumps over such instructions.
+/// Returns the instructions of a function that need no machine code. The result does not contain jumps
+/// that only skip instructions without machine code.
 fn idle_alone(
     alloc: Global,
     plain: &Plain,

@@ -16,7 +16,7 @@ pub(crate) const MOST_CHOSEN: u32 = 64;
 /// The bit mask that contains all slots that may get registers.
 pub(crate) const ALL_NUMBERS: u64 = 0xffff_ffff_ffff_ffff;
 
-/// The maximal number of further passes over the liveness table. Each level of nested loops takes one pass.
+/// The maximal number of passes over the liveness table after the first pass. Each level of nested loops takes one pass.
 const ROUNDS: usize = 16;
 
 /// Returns the slots that the liveness table lists as live at the successors of an instruction.
@@ -121,8 +121,8 @@ fn is_sound_at(
                 && is_within(uses.bars, lives.barred)))
 }
 
-/// Returns true if the liveness table misses no code position where a slot that gets a register is live. The check also ensures
-/// that the sets of slots live after a call, live in a handler, or excluded from registers lack no such slot.
+/// Returns true if the liveness table misses no code position where a slot that gets a register is live. The check also ensures that three
+/// sets miss no slot: the slots live after a call, the slots live in an exception handler, and the slots excluded from registers.
 pub(crate) fn is_sound(
     plain: &Plain,
     function: &Function,

@@ -7,7 +7,7 @@ ghost use Rattle.cyc_registers.specs.inside.Masks as masks_of;
 use crate::moves::is_crossing;
 use cyc_plain::{Instruction, Operand, Plain, RECORD_WORDS, Request};
 
-/// Returns the entry of a list of masks for a slot or for a code position, or 0 if there is no entry.
+/// Returns the bit mask that a list has at the index of a slot or of a code position, or 0 if the index is not below the list's length.
 pub(crate) fn mask_at(masks: &[u64], place: usize) -> u64
     ensures { result ≡ masks_of.mask_at masks.now place }
 {

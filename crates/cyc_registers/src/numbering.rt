@@ -1,4 +1,4 @@
-//! Numbers the slots that may get registers; each number is given as a mask with one bit.
+//! Numbers the slots that may get registers; the number of a slot is stored as a bit mask in which only the bit with this number is set.
 ghost use Rattle.std.specs.Prelude.{◌≤◌, IfOk};
 ghost use Rattle.cyc_registers.specs.inside.Masks.{AreMasks};
 
@@ -22,7 +22,8 @@ fn number(masks: &mut Vec<u64>, next: u32, is_chosen: bool) -> Result<u32, Alloc
     Ok(next + 1)
 }
 
-/// Returns the bit masks of all slots: the slots with the highest spill costs become candidates for registers and get numbers in order.
+/// Returns the bit masks of all slots: the slots with the highest spill costs become candidates for registers and get consecutive
+/// numbers, each stored as a mask with one bit.
 pub(crate) fn masks_of(alloc: Global, costs: &SpillCosts) -> Result<Vec<u64>, AllocError>
     ensures { IfOk result (λ masks. AreMasks masks.items MOST_CHOSEN) }
 {

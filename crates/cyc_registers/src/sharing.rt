@@ -194,7 +194,7 @@ fn are_apart(groups: &[u64], written: u64, following: u64) -> bool
     true
 }
 
-/// Returns the slots live at an instruction; for a move of several words, also the destinations.
+/// Returns the slots that are live at an instruction. For a move of several words, the slots to which the words are moved are included.
 fn standing_mask(uses: Uses, instruction: Instruction, index: usize, live: &[u64]) -> u64
     requires { index < length live.now }
     ensures { result ≡ checks.standing_mask uses instruction index live.now }

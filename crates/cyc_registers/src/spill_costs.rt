@@ -32,7 +32,7 @@ pub(crate) struct SpillCosts {
 /// The facts about loops and jumps at one position in the code.
 #[derive(Clone, Copy)]
 struct Place {
-    /// The code position after the last backward jump to the current position, or 0 if there is none.
+    /// The code position after the last backward jump that targets the current position, or 0 if no backward jump targets it.
     end: usize,
     /// The number of loops that end at the instruction just before this code position.
     closing: u64,

@@ -5,7 +5,8 @@ use cyc_words::Fault;
 use std::alloc::{AllocError, Global};
 use std::mem::ManuallyDrop;
 
-/// The type of the object to which a pointer points, as far as the advice distinguishes such types.
+/// The type of the object to which a pointer points: int, char or a struct. The advice on pointers
+/// that are declared without a value distinguishes only these types.
 #[derive(Clone, Copy)]
 enum Target<'t> {
     Int,

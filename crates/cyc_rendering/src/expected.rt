@@ -18,8 +18,8 @@ type Candidate = (&'static str, &'static str);
 /// A group of grammatical constructs that can begin at the same points of a text, in the order in which messages list them.
 #[derive(Clone, Copy)]
 struct Group {
-    /// A token that the grammar allows wherever a construct of this group can begin, and where no construct of another group can; empty if
-    /// there is no such token.
+    /// A token that the grammar allows wherever any of this group's grammatical constructs can begin, and nowhere where a construct of a
+    /// different group can begin; empty if no token has this property.
     token: &'static str,
     candidates: &'static [Candidate],
 }

@@ -9,8 +9,8 @@ use cyc_words::{Code, Fault, Span};
 use std::alloc::Global;
 use std::fmt;
 
-/// Returns the source position where the variable of a text's first fault became empty or locked, if there is one. The fault must be
-/// one of the flow rules. Returns `None` if memory runs out.
+/// Returns the source position where a variable became empty or locked, if the first fault of the text is that the flow rules forbid
+/// a use of this empty or locked variable. Returns `None` for any other fault, or if memory runs out.
 pub fn cause_of(alloc: Global, text: &[u8], fault: Fault) -> Option<Cause> {
     match fault.code {
         Code::EmptyVariable | Code::LockedVariable | Code::LoopEmptiesVariable => {}

@@ -1,6 +1,7 @@
 //! Finds the faults of tokens, of grammar and of the flow rules that remain in a text once its first fault is repaired.
 //!
-//! If a text has no tokens or no syntax tree, declarations with faults of tokens or grammar are replaced by blanks, and the rest parsed.
+//! If a text cannot be split into tokens or has no syntax tree, each declaration with a fault of tokens or grammar is replaced by
+//! blanks, and the remaining declarations are parsed.
 ghost use Rattle.std.specs.Prelude.{◌≤◌, IfSome, length};
 ghost use Rattle.cyc_front.specs.Front.{IsRefusedText};
 
@@ -27,7 +28,8 @@ pub fn is_between(first: Span, fault: Fault, last: Span) -> bool {
 
 // ---- flow
 
-/// Returns how many functions there are up to and including the one with the fault, or the number of all functions if none contains it.
+/// Returns how many functions there are from the first function to the one that contains the fault (included), or the number of all
+/// functions if no function contains the fault.
 fn count_up_to(functions: &[Function], fault: Fault) -> usize
     ensures { result ≤ length functions.now }
 {
@@ -149,7 +151,8 @@ pub fn tell_readings(
         let Some(found) = refused_reading(alloc, &left) else {
             return Ok(());
         };
-        // If no declaration remains in the text, then its end is not reported as a fault, since no declaration is incomplete there.
+        // If no declaration remains in the text, an unexpected end of the text is not reported as a fault, since no declaration is
+        // incomplete.
         if found.code == Code::UnexpectedEnd && starts_of(alloc, &left)?.is_empty() {
             return Ok(());
         }

@@ -183,8 +183,8 @@ fn if_any(text: &str) -> Option<&str> {
     if text.is_empty() { None } else { Some(text) }
 }
 
-/// Returns the second source position for a fault, if there is one: where the variable's state changed, or a position that the explanation
-/// mentions.
+/// Returns the second source position for a fault, if there is one: the position where the variable's state changed, or a position to
+/// which the explanation of the fault refers.
 fn other_place(message: &Message<'_>) -> Option<Span> {
     match message.refusal.cause {
         Some(cause) => Some(cause.span),

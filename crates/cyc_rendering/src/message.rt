@@ -7,9 +7,10 @@ use cyc_flow::Cause;
 use cyc_words::{Code, Fault};
 use std::fmt;
 
-/// The message on a fault in the file `name`. The message states the source position and the fault, the first line on the violated rule,
-/// and the source line with a marker. After the source line, the message shows the remaining lines on the rule and the advice. For an
-/// empty or locked variable, the message also names the source position where it became empty or locked.
+/// The message on a fault in the file `name`. The message states the source position, the fault, the first line of the text on the
+/// violated rule, and the source line with a marker under the position. After the source line, the message shows the remaining lines of
+/// the text on the rule, and the advice. For an empty or locked variable, the message also names the source position where the variable
+/// became empty or locked.
 #[derive(Clone, Copy)]
 pub struct Message<'a> {
     pub name: &'a str,
@@ -46,7 +47,8 @@ fn digit_of(byte: u8, base: u32) -> Option<u32> {
     if digit < base { Some(digit) } else { None }
 }
 
-/// For the fault of a number that is too large, returns the number as 32 bits, if it fits them and no minus precedes it.
+/// If the fault is a number that is too large for a signed int, returns the number as a 32-bit word. Returns `None` if
+/// the number needs more than 32 bits or follows a minus sign.
 fn bits_of(text: &[u8], fault: Fault) -> Option<u32> {
     let Fault { code, line, column } = fault;
     if code != Code::NumberTooLarge {
@@ -71,7 +73,7 @@ fn bits_of(text: &[u8], fault: Fault) -> Option<u32> {
     }
 }
 
-/// The suggestion for a number that is too large: the signed int with the same 32 bits.
+/// The suggestion for a number that is too large for a signed int: the negative int with the same 32 bits.
 #[derive(Drop)]
 struct Signed {
     bits: u32,
@@ -180,7 +182,8 @@ impl fmt::Display for Lines<'_> {
     }
 }
 
-/// Writes a fault on one line: the first line on the violated rule, or else the words for the fault's code with the name or token there.
+/// Writes a fault on one line: the first line of the text on the violated rule. If there is no such text, it writes the words for the
+/// fault's code, with the name or token at the fault's source position.
 #[derive(Drop)]
 pub struct Summary<'a>(pub &'a Message<'a>);
 

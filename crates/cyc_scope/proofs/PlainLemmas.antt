@@ -9,7 +9,7 @@ use Rattle.cyc_types.specs.declared.ty.Ty.{Ty as TyCode}
 use Rattle.cyc_types.specs.TypeView.{view_ty}
 use Rattle.cyc_scope.specs.inside.Plain.{regions_in, all_regions, Ascend}
 
--- region variables whose numbers increase from b on are also region variables whose numbers increase from a lower number a on
+-- if a list consists of region variables with increasing numbers of at least b, these numbers are also at least a for each a below b
 ascend_lower : (a b : ℕ) (rs : List Region) (c : ℕ) → a ≤ b → Ascend b rs c → Ascend a rs c
 ascend_lower a b [] c le h = omega (arith, le, h)
 ascend_lower a b (Variable n ∷ rs) c le h = (omega (arith, le, h.0), h.1)
@@ -22,15 +22,15 @@ ascend_append a (Variable n ∷ rs) b ss c h k = (h.0, ascend_append (suc n) rs 
 ascend_append a (Heap ∷ rs) b ss c h k = absurd h
 ascend_append a (Unique ∷ rs) b ss c h k = absurd h
 
--- region variables whose increasing numbers are below b are also region variables whose increasing numbers are below a higher number c
+-- if a list consists of region variables with increasing numbers below b, these numbers are also below each c above b
 pub ascend_higher : (a : ℕ) (rs : List Region) (b c : ℕ) → b ≤ c → Ascend a rs b → Ascend a rs c
 ascend_higher a [] b c le h = omega (arith, le, h)
 ascend_higher a (Variable n ∷ rs) b c le h = (h.0, ascend_higher (suc n) rs b c le h.1)
 ascend_higher a (Heap ∷ rs) b c le h = absurd h
 ascend_higher a (Unique ∷ rs) b c le h = absurd h
 
--- if regions are variables with increasing numbers and one more such region follows with a higher
--- number, the longer list is also increasing
+-- if a list consists of region variables with increasing numbers, and a region variable with a higher number is appended, then the longer
+-- list also consists of region variables with increasing numbers
 pub ascend_more : (o : Option ℕ) (a b : ℕ) (rs : List Region) (r : Region) → Ascend a rs b → IfSome o (λ n. Ascend b (r ∷ []) n) → IfSome o (λ n. Ascend a (rs ++ r ∷ []) n)
 ascend_more None a b rs r h k = tt
 ascend_more (Some n) a b rs r h k = ascend_append a rs b (r ∷ []) n h k
@@ -41,12 +41,13 @@ none_at_all (x ∷ xs) h = let none : suc (length xs) ≡ 0 = eqb-true (suc (len
 
 -- ---- loops
 
--- if the region at index i of a list and those after it are variables with increasing numbers, so are all regions from i on
+-- if the region at index i of a list and all regions after it are variables with increasing numbers, so are all regions from index i on
 pub ascend_from : (a b c : ℕ) (rs : List Region) (i : ℕ) (d : Region) → i < length rs → Ascend a (get_or rs i d ∷ []) b → Ascend b (drop (i + 1) rs) c → Ascend a (drop i rs) c
 ascend_from a b c rs i d lt one rest =
     subst (λ xs. Ascend a xs c) (sym (drop_more rs i d lt)) (ascend_append a (get_or rs i d ∷ []) b (drop (i + 1) rs) c one rest)
 
--- if the regions of the type at index i and of later types are variables with increasing numbers, so are all from i on
+-- if the regions of the type at index i and those of all types after it are variables with increasing numbers, so are
+-- all regions of the types from index i on
 pub types_from : (a b c : ℕ) (ts : List TyCode) (i : ℕ) (t : TyCode) → i < length ts → t ≡ get_or ts i t → Ascend a (regions_in (view_ty t)) b
     → Ascend b (all_regions (map view_ty (drop (i + 1) ts))) c → Ascend a (all_regions (map view_ty (drop i ts))) c
 types_from a b c ts i t lt is one rest =

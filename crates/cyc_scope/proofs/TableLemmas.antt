@@ -63,7 +63,7 @@ set_first table ys y n x at lt finds none = by_test (nat_eq y x) refl
         ∙ sym (first_new ys y x (ap (first_place ys) (sym same) ∙ none) ∙ ap (λ t. cond t (Some (length ys)) None) f)
     by_test false f = get_or-set_other table y x (Some n) None (other f) ∙ finds x ∙ sym (first_old ys y x f)
 
--- the table of first declarations stays correct, unchanged, when a name that it already contains is declared again
+-- the table that maps each name to its first declaration needs no change when a name that it already contains is declared again
 pub keep_first : (table : List (Option ℕ)) (ys : List ℕ) (y i x : ℕ) → ((z : ℕ) → get_or table z None ≡ first_place ys z) → first_place ys y ≡ Some i → get_or table x None ≡ first_place (ys ++ y ∷ []) x
 keep_first table ys y i x finds known = by_test (nat_eq y x) refl
   where

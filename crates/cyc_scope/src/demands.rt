@@ -22,7 +22,8 @@ pub fn is_name_of(names: &RegionNames, region: Region, name: Ident) -> bool
     }
 }
 
-/// Requires that a region name is declared; in a parameter, requires instead that the name is not the function's name.
+/// Records a fault if a region name is not declared. For a region name in a parameter, the function instead records a
+/// fault if the region name equals the name of the function's own region.
 pub fn demand_name(settled: &mut Settled, names: &RegionNames, own: Option<usize>, name: Ident)
     ensures { settled.new.known ≡ noted settled.old.known (name_demanded names.now own (view_name name)) }
 {

@@ -18,7 +18,8 @@ fn following(next: usize, region: Region) -> Option<usize>
     }
 }
 
-/// Returns the last region's number plus one, if the regions are variables with increasing numbers from `next` on.
+/// If the regions are variables with increasing numbers of at least `next`, returns the last region's number plus
+/// one, or `next` for an empty list; otherwise returns `None`.
 fn following_all(next: usize, regions: &[Region]) -> Option<usize>
     ensures { IfSome result (λ n. Ascend next regions.now n) }
 {
@@ -29,8 +30,8 @@ fn following_all(next: usize, regions: &[Region]) -> Option<usize>
     Some(known)
 }
 
-/// Checks that the regions of a type are variables with increasing numbers, from `next` on. The function applies `following_all` to the
-/// regions of a type.
+/// Checks that the regions of a type are variables with increasing numbers of at least `next`. The check of a type's regions is that of
+/// `following_all` for a list of regions.
 fn following_type(next: usize, of_type: &Ty) -> Option<usize>
     ensures { IfSome result (λ n. Ascend next (regions_in (view_ty of_type.now)) n) }
 {
@@ -42,8 +43,8 @@ fn following_type(next: usize, of_type: &Ty) -> Option<usize>
     }
 }
 
-/// Checks that the regions of several types, in turn, are variables with increasing numbers. The function applies `following_type` to each
-/// type.
+/// Checks that the regions in a list of types, from the first type to the last, are variables with increasing numbers of at least `next`.
+/// The function calls `following_type` for each type.
 fn after_types(next: usize, types: &[Ty]) -> Option<usize>
     ensures { IfSome result (λ n. Ascend next (all_regions (map view_ty types.now)) n) }
 {

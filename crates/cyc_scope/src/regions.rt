@@ -8,7 +8,7 @@ use cyc_types::{Kind, Outlives, Region};
 use std::alloc::{AllocError, Global};
 use std::marker::Model;
 
-/// Returns the largest count such that the effect lists the region variables 1 to that count in order.
+/// Returns the largest number n such that the effect (a list of regions) begins with the region variables 1 to n in ascending order.
 fn count_of(effect: &[Region]) -> usize
     ensures { AreThroughout (Heap ∷ Unique ∷ effect.now) result }
 {

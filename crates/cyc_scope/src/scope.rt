@@ -27,7 +27,7 @@ pub struct Mark {
 }
 
 /// The context in which the checker checks an expression or statement of a function's body. The context consists of the declarations of
-/// the program, the meaning of names, the live regions, and the numbers of the next local and region.
+/// the program, the meaning of names, the live regions, and the numbers that identify the next declared local and the next region.
 ///
 /// Regions are numbered from the outermost block to the innermost. So the region number of the newest local with a name decides
 /// if the innermost block declares that name.
@@ -368,8 +368,8 @@ impl<'a> Scope<'a> {
         }
     }
 
-    /// Removes the names that came into scope since the mark (a record of the scope's size) was taken. The numbers of locals and
-    /// regions, and the region names, that were used for removed names are not used again.
+    /// Removes the names that came into scope since the mark (a record of the scope's size) was taken. The numbers of the
+    /// removed locals and regions, and the removed region names, are not used for later declarations.
     pub fn leave(&mut self, mark: Mark)
         requires { IsInOrder (left_to mark self.old) }
         ensures { self.new ≡ left_to mark self.old }

@@ -43,7 +43,7 @@ impl Settled {
         });
     }
 
-    /// Succeeds if all requirements were satisfied; otherwise returns the recorded fault.
+    /// Succeeds if all requirements of the typing rules that were checked so far were satisfied; otherwise returns the recorded fault.
     pub fn end(&self) -> Result<(), Stop>
         ensures { Ends result self.now.known }
     {

@@ -128,7 +128,7 @@ impl Emitter {
         Ok(())
     }
 
-    /// Emits the MIPS lines that end the run if no further call is allowed.
+    /// Emits the MIPS lines that end the run if the current frame is the lowest one allowed, so that no further call can be made.
     pub(crate) fn test_room(&mut self, here: usize) -> Result<(), AllocError>
         requires { here ≤ most_lines + MOST_FRAME_WORDS }
         ensures { AddsLines result self.old self.new (room_code here) }

@@ -21,7 +21,7 @@ pub const FIRST: u8 = 24;
 /// The temporary register that receives an instruction's second operand.
 pub const SECOND: u8 = 1;
 
-/// The temporary register for any further word that an instruction needs.
+/// The temporary register for a word that an instruction needs in addition to its first operand, its second operand and its result.
 pub const THIRD: u8 = 3;
 
 /// The register that holds the address of the current frame.

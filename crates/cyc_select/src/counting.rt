@@ -1,4 +1,4 @@
-//! Counts the lines of each instruction, and numbers all lines of the program.
+//! Counts the MIPS lines of each instruction, and assigns a line number to each line of the program.
 ghost use Rattle.std.specs.Prelude.{◌≡◌, ◌+◌, ◌*◌, ◌<◌, ◌≤◌, length, map, sum_by, All, IfOk};
 ghost use Rattle.cyc_plain.specs.inside.Program.{routine_of, routine_at, instruction_size, size};
 ghost use Rattle.cyc_plain.specs.inside.WellFormed.{IsPlain, IsInRange};
@@ -170,7 +170,8 @@ fn call_count(caller: &Frame, callee: &Frame, arguments: usize, count: usize) ->
         + copies_count(caller, callee, arguments, count)
 }
 
-/// Returns 1 if the function saves its return address, otherwise 0. The save takes one line at the entry and one at each return.
+/// Returns 1 if the function saves its return address, otherwise 0. Saving the address takes one line at the function's entry,
+/// and loading it again takes one line at each return.
 pub(crate) fn way_count(frame: &Frame) -> usize
     ensures value { result ≡ way_count frame.now }
     ensures few { result ≤ 1 }
@@ -393,7 +394,8 @@ fn instruction_lines(
     })
 }
 
-/// Returns the line numbers of the instructions of a function that begins at this line, and the number of the line after its last one.
+/// Returns the line numbers of the instructions of a function that begins at line `here`, and the number of the line after the
+/// function's last line.
 fn function_lines(
     alloc: Global,
     plain: &Plain,

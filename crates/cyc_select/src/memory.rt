@@ -27,7 +27,7 @@ fn address_register(frame: &Frame, address: Operand, offset: u32) -> u8
     }
 }
 
-/// Returns the offset that a load or store instruction contains: 0 if the offset is too large for the instruction.
+/// Returns the 16-bit offset in a load or store instruction: the given offset, or 0 if the given offset is too large for the instruction.
 fn near_half(offset: u32) -> u16
     ensures { result ≡ near_half offset }
 {

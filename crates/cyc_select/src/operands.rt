@@ -199,7 +199,7 @@ pub(crate) fn give_count(frame: &Frame, slot: usize) -> usize
     }
 }
 
-/// Returns the number of MIPS lines that store an argument in the callee's frame: 0 if it does not arrive there.
+/// Returns the number of MIPS lines that store an argument in the callee's frame: 0 if callers pass this argument in a register only.
 pub(crate) fn keep_coming_count(callee: &Frame, slot: usize) -> usize
     ensures value { result ≡ keep_count (coming callee.now) slot }
     ensures few { result ≤ 1 }
@@ -419,8 +419,8 @@ impl Emitter {
         }
     }
 
-    /// Emits the MIPS lines that write a register to a slot. If registers are reloaded after this write (`again`), a slot whose
-    /// home is a register and memory is written in memory only.
+    /// Emits the MIPS lines that write a register to a slot. If all registers are reloaded after this write (`again`), a slot
+    /// whose home is both a register and memory is written in memory only.
     fn bring(
         &mut self,
         frame: &Frame,
@@ -456,7 +456,7 @@ impl Emitter {
         Ok(())
     }
 
-    /// Emits the store of an argument in the callee's frame, if the argument arrives there.
+    /// Emits the store of an argument in the callee's frame, if callers pass this argument in memory.
     pub(crate) fn keep_coming(&mut self, callee: &Frame, slot: usize) -> Result<(), AllocError>
         requires { IsReached callee.now slot }
         ensures { AddsLines result self.old self.new (ordinary (keep_code (coming callee.now) slot)) }

@@ -400,8 +400,8 @@ impl Emitter {
         self.keep(frame, destination)
     }
 
-    /// Emits the code of a quotient or a remainder. For the divisor -1 the code multiplies instead, since the machine cannot divide the
-    /// least number by -1. The product's result is in the same register (HI or LO) as that of the division.
+    /// Emits the code of a quotient or a remainder. For the divisor -1 the code multiplies by -1 instead of dividing, since the machine
+    /// cannot divide the least int by -1. The product is in the same register (HI or LO) in which the division leaves its result.
     fn divide(
         &mut self,
         frame: &Frame,

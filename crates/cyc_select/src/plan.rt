@@ -422,7 +422,8 @@ pub(crate) fn binary_plan(operator: BinaryOperator, left: Operand, right: Operan
     }
 }
 
-/// Returns the branch on a word's sign that performs a comparison with 0, if there is one.
+/// Returns the MIPS branch on a word's sign that performs the given comparison of this word with 0,
+/// or `None` if MIPS performs this comparison by no branch on the sign.
 fn sign_of(comparison: Comparison) -> Option<BranchZeroOp>
     ensures { result ≡ sign_of comparison }
 {

@@ -1,5 +1,5 @@
--- This file is about counting the tokens of lists: the tokens counted so far, together with those of the
--- remaining elements, and the tokens of nodes that have lists.
+-- This file is about counting the tokens of lists: the tokens counted so far, plus those of the remaining elements, are all tokens of the
+-- list. The file also counts the tokens of tree nodes that contain lists.
 use Rattle.std.proofs.Common.{◌≡◌, ℕ, ◌+◌, ◌*◌, ◌-◌, ◌<◌, ◌≤◌, List, [], ◌∷◌, length, get_or, drop, map, Option, sym, ap, ◌∙◌, arith}
 use Rattle.std.proofs.lemmas.List.{drop_more}
 use Rattle.std.specs.declared.vec.Vec.{Vec}

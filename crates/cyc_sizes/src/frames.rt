@@ -113,7 +113,8 @@ fn converted_words(value: &Converted) -> usize
     words_of_kind(value.from).max(words_of_kind(value.to))
 }
 
-/// Returns the number of machine words of the region handle of `rnew`; `unique_region` takes a word too.
+/// Returns the number of frame words that the region handle of an `rnew` takes: 0 for the heap, 1 for
+/// `unique_region`, and otherwise the words of the handle's expression.
 fn handle_words(placement: &Placement) -> usize
     ensures { result ≡ handle_words (view_placement placement.now) }
 {
@@ -124,8 +125,8 @@ fn handle_words(placement: &Placement) -> usize
     }
 }
 
-/// Returns the frame words that an expression needs. For each operand it counts the words before the operand plus the operand's need,
-/// and it takes the maximum of these numbers and of the words of the complete expression.
+/// Returns the frame words that an expression needs. For each operand it adds the operand's need to the words that are already in use
+/// when the operand is evaluated. The result is the maximum of these sums and of the words of the complete expression.
 #[cycle(need)]
 fn expression_need(value: &Expr) -> usize
     requires { expression_need (view_expression value.now) ≤ most_frame_count }
@@ -281,8 +282,8 @@ fn operation_need(operation: &Operation, of_type: &Ty, left: usize) -> usize
     }
 }
 
-/// Returns the frame words that the rest of a chain of binary operators needs. The chain before an operator is the operator's left
-/// operand, and has the chain's type unless it is only the first operand.
+/// Returns the frame words that the remaining operators of a chain of binary operators need. The chain before an operator is this
+/// operator's left operand. It has the type of the whole chain, unless it consists of the first operand alone.
 #[cycle(need)]
 fn operations_need(operations: &[Operation], of_type: &Ty, first: usize) -> usize
     requires { operations_need (operations_of operations.now) (view_ty of_type.now) first ≤ most_frame_count }

@@ -140,7 +140,8 @@ fn operation_weight(operation: &Operation) -> usize
     }
 }
 
-/// Returns the number of tokens of the rest of an operator chain.
+/// Returns the number of tokens of a chain of binary operators without its first operand: the tokens of the operators and of their right
+/// operands.
 #[cycle(expressions)]
 fn operations_weight(operations: &[Operation]) -> usize
     requires { operations_weight (operations_of operations.now) ≤ max_tokens }

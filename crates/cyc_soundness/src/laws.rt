@@ -20,7 +20,8 @@ ghost use Rattle.cyc_soundness.specs.inside.Awaited.{Want};
 ghost use Rattle.cyc_soundness.specs.inside.Stacks.{IsStack};
 ghost use Rattle.cyc_soundness.specs.Sound.{IsSound};
 
-/// A well-typed tree that satisfies the flow rules also satisfies them in the form for proofs about runs (it is guarded).
+/// If a well-typed tree satisfies the flow rules, then it is guarded: it also satisfies the flow rules in the form that
+/// the proofs about runs use.
 pub fn allowed_programs_are_guarded()
     ensures { (program : Program) → IsWellTypedProgram program → IsAllowedProgram program → IsGuardedProgram program }
 {}

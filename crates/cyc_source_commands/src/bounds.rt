@@ -17,7 +17,8 @@ fn words_of(alloc: Global, text: &[u8]) -> Option<u32> {
     Some(header.memory_size / 4)
 }
 
-/// Returns the number of machine-code words in a program's image if the program's steps have a bound; otherwise the number is not needed.
+/// Returns the number of machine-code words in a program's image if the program's steps have a bound; otherwise returns `None`, since the
+/// number is needed only with this bound.
 pub fn words_by(alloc: Global, text: &[u8], bounds: &Bounds) -> Option<u32> {
     match bounds.steps {
         StepBound::Steps { .. } => words_of(alloc, text),
@@ -25,10 +26,10 @@ pub fn words_by(alloc: Global, text: &[u8], bounds: &Bounds) -> Option<u32> {
     }
 }
 
-/// The text about a program's needs has a line for each of the calls, pages and steps, which states a bound or its absence. If there is no
-/// bound, the obstacle follows. For a cycle of calls the text has a line for each function, with the position of its call of the next
-/// function. For any other obstacle it has the position of a loop. After the steps the text states the maximum number of instructions for
-/// them.
+/// The text about a program's needs has a line for the nested calls, one for the pages and one for the steps; each line states a bound or
+/// that no bound exists. If no bound exists, the text then names the obstacle. If the obstacle is a cycle of calls, the text has a line
+/// for each function, with the source position of its call of the next function. For any other obstacle the text has the source position
+/// of a loop. After the line about steps, the text states the maximum number of instructions for all steps.
 #[derive(Drop)]
 pub struct Needs<'a> {
     pub name: &'a str,
@@ -189,7 +190,7 @@ impl fmt::Display for Needs<'_> {
 pub struct Remedies<'a>(pub &'a Needs<'a>);
 
 impl Remedies<'_> {
-    /// Returns true if there is a remedy to write.
+    /// Returns true if there is a change to suggest that would give the program a missing bound on calls or pages.
     pub fn has_any(&self) -> bool {
         let bounded = self.0.bounded;
         match (&bounded.bounds.calls, &bounded.bounds.pages) {

@@ -55,7 +55,7 @@ fn refuse_one_file(rt: &HostRuntime, source: &str, image: &str) -> Result<(), An
     Err(Answer::Usage)
 }
 
-/// A further output file of a compilation: its description for the user, and the option that names it.
+/// An output file that a compilation writes in addition to the image: its path, its description for the user, and the option that names it.
 #[derive(Clone, Copy)]
 struct Beside<'a> {
     what: &'static str,
@@ -63,8 +63,8 @@ struct Beside<'a> {
     path: &'a str,
 }
 
-/// Rejects a further output file that is the same as the source file, the image file or the file of source
-/// positions, which it would replace.
+/// Rejects an output file if it is the same file as the source file, the image file or the file of source
+/// positions, because it would replace that file.
 fn refuse_beside(
     rt: &HostRuntime,
     beside: Beside<'_>,

@@ -14,8 +14,8 @@ fn home_of<'a>(parts: &[Part<'a>], line: u32) -> Option<(&'a str, u32)> {
     Some((part.name, part.line.saturating_add(beyond)))
 }
 
-/// Reads a line number followed by `sign` at the start of a text. Returns the other file that contains this line of the joined text, the
-/// line's number in it, and the rest of the text.
+/// Reads a line number followed by the character `sign` at the start of a text about a joined text. Returns the file, other than the
+/// program's own, that contains this line of the joined text, the line's number in that file, and the text after `sign`.
 fn home_in<'a, 't>(
     parts: &[Part<'a>],
     text: &'t str,
@@ -161,8 +161,8 @@ fn with_file(alloc: Global, object: &str, file: &str) -> Result<String, AllocErr
     format!(in alloc; "{object}")
 }
 
-/// Returns a JSON object, on a line, about a text whose program is in the file `name`. A further source position in another file gets that
-/// file's name after its other members.
+/// Returns the given JSON object, on a line, with the name of the file that contains its source position; the program's own file is
+/// `name`. If a second source position is in a different file, that file's name is added as the last member.
 pub fn object_by_homes(
     alloc: Global,
     object: &str,

@@ -22,7 +22,8 @@ struct Declaration {
     is_reached: bool,
 }
 
-/// The facts known about a name: its declarations, and a flag that is true once the search for needed declarations has reached the name.
+/// The facts known about a name: its declarations in a library and in the program, and a flag. The flag is true once the search for the
+/// needed library declarations has reached the name.
 #[derive(Clone, Copy)]
 struct Known {
     /// The library declaration that declares the name, if any.
@@ -42,8 +43,8 @@ pub enum Clash {
         second: usize,
         token: usize,
     },
-    /// The program declares, at `own`, a name that a library also declares. A needed library declaration uses the name at the token
-    /// with index `token`; `by` is the index of the token of that declaration's own name.
+    /// The program declares, at `own`, a name that a library also declares. A needed library declaration uses this name at the
+    /// token with index `token`; `by` is the index of the token with the name that this library declaration declares.
     Taken {
         own: Span,
         declared_in: usize,
@@ -336,7 +337,8 @@ impl Shelf<'_> {
         Ok(())
     }
 
-    /// Returns the library declaration of a name, if the search reaches the name for the first time, and marks the declaration as needed.
+    /// Returns the library declaration of a name and marks the declaration as needed, if the search for needed declarations reaches the
+    /// name for the first time.
     fn meet(&mut self, name: usize) -> Option<usize> {
         let known = self.known.get_mut(name)?;
         if known.was_met {

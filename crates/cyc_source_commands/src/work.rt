@@ -44,7 +44,8 @@ pub fn compile(alloc: Global, text: &[u8], limits: GivenLimits) -> Result<Compil
     compile_with_tokens(alloc, text, limits.carried())
 }
 
-/// Compiles a source text to an image, and also returns the position in the text from which each word of the image originates.
+/// Compiles a source text to an image. For each machine word of the image, also returns the source position in the text from
+/// which the machine word was compiled.
 pub fn compile_placed(alloc: Global, text: &[u8], limits: GivenLimits) -> Result<Placed, Fault>
     // A text with a fault is never compiled.
     ensures refuses { (fault : Fault) → HasFaultAtLast text.now fault

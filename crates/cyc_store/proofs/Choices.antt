@@ -229,7 +229,7 @@ module _ (s : StoreState) (o : IsOrdered s) where
           laid = dead-laid s l o.laid class w bound rest next s.memory (subst IsSound (unique-is (place_of w)) (sound-there UNIQUE n none (place_of w) may));
         }))
 
-    -- If there is no empty slot, then a free page is cut into slots.
+    -- If a size class has no empty slot for a unique block, then a free page is cut into slots.
     module _ (spent : l.dead class ≡ []) where
       all-live : live_in class s.unique ≡ slice_index s.classes class * blocks_in_page class
       all-live = all (live_in class s.unique) (length (l.dead class)) _ (ap length spent) (o.laid.slots.count class bound)
@@ -386,7 +386,7 @@ saved-ordered s address word o is = by (word_at s address) (saved-sound s addres
       laid = record { sound = still; paged = paged-memory s o.layout.pages o.layout.free _ o.laid.paged; covered = o.laid.covered; slots = o.laid.slots };
     }
 
--- For every list of calls, there is a run that answers each of the calls.
+-- For every list of calls to a store, there is a run of the store that answers each call of the list.
 pub answers : (calls : List Call) (s : StoreState) → IsOrdered s → Answers calls s
 answers [] s o = record { exchanges = []; services = tt; end = s; run = refl; ordered = o }
 answers (call ∷ calls) s o = by (refusal s call) refl (λ t ordered. answers calls t ordered)

@@ -43,7 +43,7 @@ slots-first size word (suc count) some = ap (λ n. word ∷ slots_from size (wor
     less : (n : ℕ) → n ≡ suc n - 1
     less n = omega arith
 
--- For each size class there is a request whose block is of this class.
+-- For each size class there is a number of requested words for which the allocated block is of this class.
 asked : (class : ℕ) → class ≤ greatest_class → (n : ℕ) × (1 ≤ n) × (n ≤ MOST_BLOCK_WORDS) × (class_of n ≡ class)
 asked zero bound = (1, omega arith, omega arith, refl)
 asked (suc zero) bound = (2, omega arith, omega arith, refl)
@@ -58,7 +58,7 @@ asked (suc (suc (suc (suc (suc (suc (suc (suc (suc zero))))))))) bound = (512, o
 asked (suc (suc (suc (suc (suc (suc (suc (suc (suc (suc zero)))))))))) bound = (1000, omega arith, omega arith, refl)
 asked (suc (suc (suc (suc (suc (suc (suc (suc (suc (suc (suc class))))))))))) bound = absurd (omega (arith, bound))
 
--- Changing the numbers of pages of size classes does not affect how the page table represents the layout.
+-- If only the recorded page counts of the size classes change, then the page table still represents the layout of the blocks.
 recounted : (t : Table) (lexicals : List ℕ) (classes : ℕ → ClassSlots) (b : Blocks) (l : Layout) (counts : List ℕ) → IsTied t lexicals classes b l
     → IsTied t lexicals classes (record b { classes = counts }) l
 recounted t lexicals classes b l counts tied = record {

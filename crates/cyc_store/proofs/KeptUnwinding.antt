@@ -43,7 +43,7 @@ down_to-lower m n (r ∷ rs) few = by m n few (cases_Bool (is_lexical r.sort)) (
     by (suc m) (suc n) few (inl is) rest = ap (down_to (suc m)) (step-in n r rs is)
         ∙ (step-in m r (down_to n rs) is ∙ (ap (λ l. r ∷ l) (rest m n (le_from_suc m n few)) ∙ sym (step-in m r rs is)))
 
--- If at least as many regions may stay open as there are lexical regions, then nothing is closed.
+-- If the number of lexical regions that may stay open is at least the number of lexical regions, then no region is closed.
 pub down_to-all : (m : ℕ) (rs : List Home) → lexical_count rs ≤ m → down_to m rs ≡ rs
 down_to-all zero [] few = refl
 down_to-all (suc m) [] few = refl

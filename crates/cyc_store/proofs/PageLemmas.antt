@@ -102,7 +102,7 @@ stays-all pages others [] stays laid = tt
 stays-all pages others (r ∷ rs) stays laid =
     (stays-in pages others r.handle r.blocks (stays r.handle) laid.0, stays-all pages others rs stays laid.1)
 
--- Filling a page further preserves the layout of all blocks.
+-- If more words of a page are filled, each block in the pages stays correctly laid out.
 pub filled-stays : (pages : Pages) (page words : ℕ) → pages.filled page ≤ words → (h : ℕ) (b : Block) → IsLaid pages h b → IsLaid (filled_to pages page words) h b
 filled-stays pages page words more h b laid = record {
   page = laid.page;

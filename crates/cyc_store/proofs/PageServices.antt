@@ -1,5 +1,5 @@
--- This file is about allocation in a region by pages: if the newest page has too little space, another page is taken. The store is out
--- of pages exactly if no page is free.
+-- This file is about allocation in a region that consists of pages: if the region's newest page has too little space, the region takes
+-- another page. The store is out of pages exactly if no page is free.
 use Rattle.std.proofs.Common.{◌≡◌, ℕ, suc, ◌+◌, ◌*◌, ◌<◌, ◌≤◌, List, [], ◌∷◌, ◌++◌, length, None, Some, refl, sym, ap, subst, ◌∙◌, inl, inr, arith}
 use Rattle.std.specs.Prelude.{nat_le}
 use Rattle.std.proofs.lemmas.List.{map-append}

@@ -68,7 +68,7 @@ slots-drawn unique classes l page h free none ordinary slots = slots-moved uniqu
     other : (p : ℕ) → l.pages.owner p ≡ Some UNIQUE → p ≡ page → ⊥
     other p owned e = never_none_and_some none (ap l.pages.owner (sym e) ∙ owned)
 
--- Filling a page of a region further preserves the slots of unique blocks.
+-- If more words of a region's page are filled, the slots of unique blocks stay correctly laid out.
 slots-filled : (unique : List Block) (classes : List ℕ) (l : Layout) (page h words : ℕ) → l.pages.owner page ≡ Some h → (h ≡ UNIQUE → ⊥)
     → AreSlots unique classes l → AreSlots unique classes (record l { pages = filled_to l.pages page words })
 slots-filled unique classes l page h words owner ordinary slots = slots-moved unique classes l (filled_to l.pages page words) l.free slots

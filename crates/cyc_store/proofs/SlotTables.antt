@@ -35,7 +35,8 @@ read-table t v words marks most_is words_is marks_is free_is rows_is =
     ∙ (ap (λ f. record (table_of v) { most = t.most; free = t.free; word = words; live = f }) marks_is
     ∙ ap (λ rs. record (table_of t) { word = words; live = marks; count = length rs; row = λ (p : ℕ). row_at rs p }) rows_is)))
 
--- The page table in which the flags that mark words as live are replaced from index `first` on; words may be replaced too.
+-- The page table in which the `count` flags from index `first` on, which say whether words are live, are set to `mark`.
+-- The words of the page table may be replaced by other words.
 pub marked-table : (t v : PageTable) (first count : ℕ) (mark : Bool) (words : ℕ → ℕ) → v.most ≡ t.most → ◌≡◌ {A = ℕ → ℕ} (λ i. slice_index v.words.items i) words
     → ((word : ℕ) → slice_index_or v.live.items word false ≡ marked_between (λ (i : ℕ). slice_index_or t.live.items i false) first count mark word) → v.free ≡ t.free → v.rows.items ≡ t.rows.items
     → table_of v ≡ record (with_marks (table_of t) first count mark) { word = words }

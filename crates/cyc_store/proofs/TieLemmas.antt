@@ -86,7 +86,7 @@ module _ (t : Table) (lexicals : List ℕ) (classes : ℕ → ClassSlots) (b : B
       reach : (p n m : ℕ) → p < n → n ≤ m → p < m
       reach p n m less more = omega (arith, less, more)
 
-  -- If a page that was used before is free, then such a page is taken.
+  -- If a page that was used before is free, then the page that is taken is one that was used before.
   pub taken-again : t.free < t.count → IsTaken t.free t.count (t.row t.free).next
   taken-again below = by tied.given tied.free tied.linked tied.within
     where

@@ -27,7 +27,8 @@ first_row sort page = record { role = role_of_sort sort; filled = 0; next = NONE
 abbrev pub with_row : Table → (page : ℕ) → Row → Table
 with_row t page r = record t { row = λ (other : ℕ). if other == page then r else t.row other }
 
--- The handles that the opening of a region of this sort appends to the list of lexical regions: its own if it is lexical, otherwise none.
+-- The handles that the opening of a region of this sort appends to the list of lexical regions: the region's own handle if the region is
+-- lexical, otherwise no handle.
 abbrev pub lexicals_with : Sort → (handle : ℕ) → List ℕ
 lexicals_with Heap handle = []
 lexicals_with Lexical handle = handle ∷ []

@@ -30,8 +30,8 @@ abbrev pub done_unless : {A E : Type 0} → services.Refusal → Result A E → 
 done_unless why (Ok a) = Some Done
 done_unless why (Err e) = Some (Refused why)
 
--- Says that the store relation holds for a call and its result. Lack of memory occurs only for a store that grows, only if there is no
--- other reason to refuse, and changes nothing.
+-- Says that the store relation holds for a call and its result. A call without a result lacked memory: only a store that grows may
+-- lack memory, only if it has no other reason to refuse the call, and the store stays unchanged.
 abbrev pub Responds : (grows : Bool) → StoreState → Call → Option Answer → StoreState → Type 0
 Responds grows s call (Some a) t = Serves s call a t
 Responds grows s call None t = (grows ≡ true) × (refusal s call ≡ None) × (t ≡ s)

@@ -29,8 +29,8 @@ IsOf a (Save address word done) = a ≡ asked.Save address word
 abbrev pub Makes : (grows : Bool) → Asked → (s t : StoreState) → Type 0
 Makes grows a s t = ((e : Exchange) × IsOf a e × Exchanges s e t) ⊎ ((grows ≡ true) × (t ≡ s))
 
--- Says that there is one exchange (a call with its answer) for each of these calls, in order, except for calls that
--- failed for lack of memory.
+-- Says that a list of exchanges (calls with their answers) has one exchange for each call of a list, in order,
+-- except for calls that failed for lack of memory.
 abbrev pub AreOf : (grows : Bool) → List Asked → List Exchange → Type 0
 AreOf grows [] [] = Unit {0}
 AreOf grows [] (e ∷ es) = ⊥

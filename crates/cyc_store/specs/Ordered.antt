@@ -1,5 +1,6 @@
--- This file defines stores whose blocks are laid out in pages. If such a store has enough pages for a call, then there is room for the
--- call's result, and some choice preserves the layout. The layout of blocks in pages is this project's own choice.
+-- This file defines stores whose blocks are laid out in pages. If such a store has enough pages for a call, then there is space for
+-- the call's result. In this case the store can choose a handle, an address and words that preserve the layout. The layout of blocks
+-- in pages is this project's own choice.
 use Rattle.std.specs.Prelude.{◌≡◌, ◌≤◌, List, [], ◌∷◌}
 use Rattle.cyc_store.specs.State.{StoreState}
 use Rattle.cyc_store.specs.Services.{Call, Choice, served, IsAllowed}
@@ -19,7 +20,7 @@ pub record HasChoice (s : StoreState) (call : Call) : Type 0 where
   pub allowed : IsAllowed s call choice
   pub ordered : IsOrdered (served s call choice)
 
--- Says that there is one exchange (a call with its answer) for each of these calls, in order.
+-- Says that a list of exchanges (calls with their answers) has exactly one exchange for each call of a list, in order.
 abbrev pub AreServices : List Call → List Exchange → Type 0
 AreServices [] [] = Unit {0}
 AreServices [] (e ∷ es) = ⊥

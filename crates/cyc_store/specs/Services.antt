@@ -89,7 +89,7 @@ names_dynamic (Some r) = is_dynamic r.sort
 abbrev pub is_size : (words : ℕ) → Bool
 is_size words = nat_le 1 words && nat_le words MOST_BLOCK_WORDS
 
--- The first reason to refuse the call, if there is one.
+-- The first reason for which the store refuses the call, if there is a reason.
 abbrev pub refusal : StoreState → Call → Option Refusal
 refusal s OpenLexical = full_at (is_full s OpenLexical)
 refusal s (CloseTo mark) = if nat_le mark (lexical_count s.regions) then None else Some BadMark

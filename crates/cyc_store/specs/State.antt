@@ -161,7 +161,7 @@ abbrev pub live_in : (class : ℕ) → List Block → ℕ
 live_in class [] = 0
 live_in class (b ∷ bs) = if class_of b.size == class then suc (live_in class bs) else live_in class bs
 
--- The numbers of pages of all size classes after `live` blocks of one class are live.
+-- The list of the page counts of all size classes, after the count of one class is raised to what `live` live blocks of this class need.
 abbrev pub raised : (classes : List ℕ) → (class live : ℕ) → List ℕ
 raised classes class live = set classes class (max (slice_index classes class) (pages_for class live))
 

@@ -27,7 +27,8 @@ pub record IsSame (old new : PageTable) : Type 0 where
   pub rows : new.rows.items ≡ old.rows.items
   pub free : new.free ≡ old.free
 
--- Says that a page is taken: the first free page, or else a new page after all others. Pages after the last one read as if they existed.
+-- Says that a page is taken for use: the first free page or, if no page is free, a new page after all others. A read of a table row
+-- after the last page gives the row of a free page.
 pub record Draws (old new : PageTable) (page : ℕ) : Type 0 where
   pub most : new.most ≡ old.most
   pub whole : IsWhole new

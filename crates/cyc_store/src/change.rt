@@ -1,6 +1,6 @@
 //! This file defines the effect of a call on the blocks of a store.
 
-/// A change of the blocks of a store.
+/// An event that changes the regions or blocks of a store, such as the opening of a region or the allocation of a block.
 #[derive(Clone, Copy)]
 pub enum Change {
     /// A lexical region with this handle was opened.

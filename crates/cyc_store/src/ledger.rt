@@ -26,7 +26,7 @@ impl Ledger {
         Ledger {}
     }
 
-    /// Returns the blocks of a store after a change.
+    /// Returns the record of a store's blocks (ledger) that results from the ledger `_before` by the event `_change`.
     pub fn with(_before: &Ledger, _change: &Change) -> Ledger
         ensures { result.blocks ≡ after _before.now.blocks _change.now }
     {

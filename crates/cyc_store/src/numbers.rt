@@ -1,4 +1,4 @@
-//! This file has the arithmetic on the numbers of words and pages, which every store of pages uses.
+//! This file has the arithmetic on counts of words and pages, which every store that is divided into pages uses.
 
 ghost use Rattle.std.specs.Prelude.{◌≡◌, ◌≢◌, ◌+◌, ◌*◌, ◌%◌, ◌^◌, ◌<◌, ◌≤◌, ◌⊎◌, IsTrue, MatchOption, false};
 ghost use Rattle.cyc_words.specs.Demand.{class_of};

@@ -75,9 +75,10 @@ pub fn make_all<S: Store>(store: &mut S, calls: &[Asked])
     }
 }
 
-/// The blocks of a store may have a layout in pages. If they have a layout, then the store relation allows a choice for each call that
-/// is not refused, and a layout exists after the call. If the store has enough pages for a call, then there is room for its result.
-/// Every list of calls has a run with a result for each call. A new store has a layout, and writing a word preserves the layout.
+/// The blocks of a store may have a layout in pages. If the blocks have a layout, the store relation allows a choice of a handle, an
+/// address and words for each call that is not refused. A layout exists after the call as well. If the store has enough pages for a
+/// call, then there is space for the call's result. Every list of calls has a run with a result for each call. A new store has a
+/// layout, and writing a word preserves the layout.
 pub fn choices_exist()
     ensures begins { (pages : ℕ) (s : StoreState) → IsNew pages s → 1 ≤ pages → pages ≤ MOST_PAGES → IsOrdered s }
     ensures chooses { (s : StoreState) (call : Call) → IsOrdered s → refusal s call ≡ None → HasChoice s call }

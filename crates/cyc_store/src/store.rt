@@ -47,13 +47,14 @@ pub trait Store {
     fn free(&mut self, address: u32) -> Result<(), NotABlock>
         ensures { Responds GROWS (held self.old) (Free address) (done_unless services.NotABlock result) (held self.new) };
 
-    /// Returns the word at an address, if the address is that of a word in a live block; such a word lies in the store's pages.
+    /// Returns the word at an address, if the address is that of a word in a live block; each word of a live block lies in the
+    /// store's pages.
     fn load(&self, address: u32) -> Option<u32>
         ensures word { result ≡ word_at (held self.now) address }
         ensures inside { IsSome result → (STORE_BASE ≤ address) × (address < STORE_BASE + 4 * (PAGE_WORDS * (held self.now).pages)) };
 
-    /// Writes a word of a live block; such a word lies in the store's pages. Returns false, without a change, if the address is not in
-    /// a live block.
+    /// Writes a word of a live block; each word of a live block lies in the store's pages. Returns false, and changes nothing, if the
+    /// address is not in a live block.
     fn save(&mut self, address: u32, word: u32) -> bool
         ensures done { result ≡ is_some (word_at (held self.old) address) }
         ensures inside { IsTrue result → (STORE_BASE ≤ address) × (address < STORE_BASE + 4 * (PAGE_WORDS * (held self.old).pages)) }

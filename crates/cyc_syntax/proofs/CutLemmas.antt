@@ -20,8 +20,8 @@ one_part p q after other e read also =
     let piece = one_piece p.piece q.piece q.bytes (subst (Spells p.piece) bytes.0 read.spelled) also.spelled in
     ((λ i. record { piece = piece i; bytes = bytes.0 i }), bytes.1)
 
--- `GoesOn` says that the list `qs` of tokens, spaces and comments extends the list `ps`: its further elements divide the
--- text that `ps` leaves over.
+-- `GoesOn` says that the list `qs` of tokens, spaces and comments extends the list `ps`: the elements of `qs` after
+-- those of `ps` divide the text that remains after `ps`.
 abbrev pub GoesOn : List Part → List Part → List ℕ → List ℕ → Type 0
 GoesOn ps qs r s = (more : List Part) × (qs ≡ ps ++ more) × IsCut more r s
 
@@ -57,7 +57,8 @@ one_cut ps qs text cut also =
 pub one_token_list : (text : List ℕ) (a b : List Token) → HasTokens text a → HasTokens text b → a ≡ b
 one_token_list text a b has also = sym has.2 ∙ ap (tokens_of []) (one_cut has.0 also.0 text has.1 also.1) ∙ also.2
 
--- A cut of a text into tokens, spaces and comments, extended by one more of these parts, is again a cut.
+-- If a cut of a text into tokens, spaces and comments is extended by the next token, space or comment of
+-- the text, the result is again a cut.
 pub IsCut-push : (ps : List Part) (p : Part) (text after : List ℕ) → IsCut ps text (p.bytes ++ after)
     → IsRead p.piece p.bytes after → p.piece ≢ OpenComment → IsCut (ps ++ p ∷ []) text after
 IsCut-push [] p text after cut read closed = (after, cut, read, closed, refl)

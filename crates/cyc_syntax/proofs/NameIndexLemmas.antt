@@ -1,4 +1,4 @@
--- The index that maps names to numbers stays correct when texts are added.
+-- The index that maps names to numbers stays correct when texts are added to the list of names.
 use Rattle.std.proofs.Common.{Vec, Global, ⊎_elim, ◌≡◌, ℕ, ◌<◌, Bool, true, false, ◌||◌, cond, if◌then◌else◌, Option, Some, None, List, [], ◌∷◌, ◌++◌, length, get_or, slice_get, is_some, refl, sym, ap, subst, ◌∙◌, arith, IfSome}
 use Rattle.std.specs.Ordering.{is_eq, nat_cmp}
 use Rattle.std.specs.Cmp.{eq_by_cmp_equiv}
@@ -35,7 +35,7 @@ slice_get-new texts text new =
 number_if-new : (texts : List (List ℕ)) (text : List ℕ) → is_among text texts ≡ false → number_if (texts ++ text ∷ []) text ≡ Some (length texts)
 number_if-new texts text new = cond-true _ _ _ (is_among-new texts text) ∙ ap (λ n. Some n) (number_of-new texts text new)
 
--- Adding a text to the list of names does not change the numbers of other texts.
+-- Adding a text to the list of names does not change the indices that identify other texts.
 number_if-other : (texts : List (List ℕ)) (text other : List ℕ) → bytes_eq other text ≡ false → number_if (texts ++ text ∷ []) other ≡ number_if texts other
 number_if-other texts text other apart =
     ⊎_elim

@@ -1,4 +1,4 @@
--- A text keeps its number when further texts are added to the list of names, and the number determines the text.
+-- A text keeps its index when further texts are added to the list of names, and the index determines the text.
 use Rattle.std.proofs.Common.{zero, get_or, fold, ⊎_elim, ◌≡◌, ◌≢◌, ℕ, suc, ◌<◌, true, false, Some, List, [], ◌∷◌, ◌++◌, length, slice_get, sym, ap, subst, ◌∙◌, arith}
 use Rattle.std.specs.Str.{bytes_eq}
 use Rattle.std.proofs.lemmas.Bool.{true≢false, cases_Bool, cond-true, cond-false, cases_lt, or_left, or_right, or_cases, or_parts}
@@ -39,7 +39,7 @@ number_of-with_text texts a b among =
     (λ new. ap (λ l. number_of l a) (cond-false _ _ _ new) ∙ position-append (bytes_eq a) texts (b ∷ []) among)
     (cases_Bool (is_among b texts))
 
--- If two texts of the list have equal numbers, they are equal.
+-- If two texts of the list of names are identified by equal indices, the texts are equal.
 pub one_text : (texts : List (List ℕ)) (a b : List ℕ) → is_among a texts ≡ true → is_among b texts ≡ true
     → number_of texts a ≡ number_of texts b → a ≡ b
 one_text texts a b has also same =

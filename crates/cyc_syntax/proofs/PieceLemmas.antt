@@ -310,7 +310,7 @@ piece_of-at : (bytes : List ℕ) (s : Start) (P : Piece) → starts_as bytes s
 piece_of-at [] s P start is = absurd start
 piece_of-at (b ∷ bs) s P start is = ap (λ t. piece_at t b bs) start ∙ is b bs refl
 
--- A search for a name among the keywords fails if the name is not a keyword.
+-- The search for a keyword whose text is a given name fails if the name is not a keyword.
 keyword_among-fresh : (ks : List Keyword) (name : List ℕ) → ((k : Keyword) → name ≢ keyword_text k) → keyword_among ks name ≡ None
 keyword_among-fresh [] name fresh = refl
 keyword_among-fresh (k ∷ ks) name fresh =
@@ -327,12 +327,12 @@ decimal_no_hexadecimal (b ∷ c ∷ d ∷ ds) decimal =
     no_zero : (b : ℕ) → is_between 49 57 b ≡ true → eqb b 48 ≡ false
     no_zero b h = grind (arith, nat_tests)
 
--- If `*/` occurs in the bytes, the search for it succeeds.
+-- If `*/` occurs in a byte string, the search for `*/` in the byte string succeeds.
 has_close-within : (before after : List ℕ) → has_close (before ++ (codes "*/" ++ after)) ≡ true
 has_close-within [] after = refl
 has_close-within (b ∷ before) after = or_right _ _ (has_close-within before after)
 
--- If the search for `*/` succeeds, it occurs in the bytes.
+-- If the search for `*/` in a byte string succeeds, `*/` occurs in the byte string.
 pub close_from_has_close : (bytes : List ℕ) → has_close bytes ≡ true → (before after : List ℕ) × (bytes ≡ before ++ (codes "*/" ++ after))
 close_from_has_close [] h = absurd (true≢false (sym h))
 close_from_has_close (b ∷ bs) h =

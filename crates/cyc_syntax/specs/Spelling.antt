@@ -158,7 +158,7 @@ escaped b =
 
 abbrev pub SpellsToken : Kind → List ℕ → Type 0
 SpellsToken (Identifier name) bytes = (bytes ≡ name) × IsTrue (is_name name) × ((k : Keyword) → name ≢ keyword_text k)
--- A region name is spelled by a backquote and a name, which may also be a keyword.
+-- A region name is spelled by a backquote and an identifier; the identifier may be the text of a keyword.
 SpellsToken (RegionName name) bytes = (bytes ≡ 96 ∷ name) × IsTrue (is_name name)
 SpellsToken (Number n) bytes =
     (IsTrue (is_decimal bytes) × (n ≡ number_in 10 bytes)) ⊎ (IsTrue (is_hexadecimal bytes) × (n ≡ number_in 16 (drop 2 bytes)))

@@ -7,8 +7,8 @@ use Rattle.cyc_syntax.specs.Spelling.{is_line_feed, Piece, Lexeme, Space, Commen
 use Rattle.cyc_syntax.specs.declared.tokens.Token.{Token as CodeToken}
 use Rattle.cyc_syntax.specs.Tokens.{Kind, Identifier, RegionName, Number, Character, Word, Mark, Token, kind_of, spelling_of, token_of}
 
--- Returns the line of the position after some bytes. Lines and columns are counted from 1, and columns in
--- bytes. Only a line feed ends a line.
+-- Returns the line number of the source position after the given bytes. Lines and columns are counted
+-- from 1, and columns in bytes. Only a line feed ends a line.
 abbrev pub line_after : List ℕ → ℕ
 line_after front = count_by is_line_feed front + 1
 

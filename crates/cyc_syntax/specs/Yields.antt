@@ -71,12 +71,14 @@ optional yield (Some x) = yield x
 
 -- ---- lists with numbered items
 
--- Returns the yields (lists of leaves) of a list's elements one after the other; the elements get item numbers from `i` on.
+-- Returns the yields (lists of leaves) of a list's elements one after the other. The elements are numbered from `i` on, and
+-- the first leaf of each element holds the element's number.
 abbrev pub each : {A : Type 0} → (A → Yield) → ℕ → List A → Yield
 each yield i [] = []
 each yield i (x ∷ xs) = item_number i (yield x) ⨾ each yield (suc i) xs
 
--- Returns the yields (lists of leaves) of a list's elements, each preceded by a comma; the elements get item numbers from `i` on.
+-- Returns the yields (lists of leaves) of a list's elements, each preceded by a comma. The elements are numbered from `i` on, and
+-- the first leaf of each element holds the element's number.
 abbrev pub more : {A : Type 0} → (A → Yield) → ℕ → ℕ → List A → Yield
 more yield d i [] = []
 more yield d i (x ∷ xs) = sign d signs.Comma ⨾ item_number i (yield x) ⨾ more yield d (suc i) xs

@@ -1,6 +1,6 @@
 -- source positions in the compiler's representation
 pub mod Place
--- the index that maps names to numbers by their keys
+-- the search structure that finds the number of a name by a key, which is computed from the name's bytes
 pub mod NameIndex
 pub mod Weight
 -- the syntax trees that the compiler builds, viewed as mathematical trees

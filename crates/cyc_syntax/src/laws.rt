@@ -9,13 +9,13 @@ pub fn one_token_list()
     ensures { (text : List ℕ) (a b : List Token) → HasTokens text a → HasTokens text b → a ≡ b }
 {}
 
-/// Two texts of a list have equal numbers exactly if they are equal.
+/// Two texts of a list of names are identified by equal indices exactly if the texts are equal.
 pub fn one_number_each()
     ensures { (texts : List (List ℕ)) (a b : List ℕ) → IsTrue (is_among a texts) → IsTrue (is_among b texts)
         → (number_of texts a ≡ number_of texts b) ↔ (a ≡ b) }
 {}
 
-/// A text keeps its number when further texts are added to the list of names, and the number determines the text.
+/// A text keeps its index when further texts are added to the list of names, and the index determines the text.
 pub fn numbers_are_kept()
     ensures kept { (texts : List (List ℕ)) (a b : List ℕ) → IsTrue (is_among a texts)
         → number_of (with_text texts b) a ≡ number_of texts a }

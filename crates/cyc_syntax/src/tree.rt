@@ -194,7 +194,7 @@ pub enum Initial {
     Plain {
         value: Expr,
     },
-    /// A struct initializer: the struct's name, its region arguments, and the values of its fields, of which there is at least one.
+    /// A struct initializer: the struct's name, its region arguments, and the values of its fields. There is at least one field value.
     Fields {
         name: Ident,
         regions: Vec<Ident>,

@@ -8,7 +8,7 @@ use std::alloc::Global;
 use std::process::Abort;
 
 /// A line for each test case: an address, the instruction word at this address, and the text of the instruction. The target of
-/// each listed branch or jump is in the 256 MB of the delay slot, or wraps around.
+/// each branch or jump in these test cases is in the 256 MB of the delay slot, or wraps around.
 const VECTORS: &str = "\
 fffffffc 143f8000 bne $1, $31, 0xfffe0000
 9ffffffc 08100000 j 0xa0400000

@@ -1,4 +1,5 @@
-//! This file tests the store on a pool of pages when its serial numbers reach their last value, which happens in no run.
+//! This file tests the store on a pool of pages when the serial numbers of regions reach their last value. In no run of
+//! a program do the serial numbers reach this value.
 
 use crate::expect::expect;
 use cyc_pagestore::PageStore;

@@ -13,7 +13,8 @@ const C: Region = Region::Variable(2);
 
 const D: Region = Region::Variable(3);
 
-/// Asserts which regions the heap, the unique region, A, B, C and D outlive, each in turn; the regions are listed in this order.
+/// Asserts for each of six regions which of these six regions it outlives. The six regions are, in this order, the heap, the
+/// unique region, A, B, C and D.
 fn expect_table<R: Abort>(rt: &R, alloc: Global, outlives: &Outlives, want: &str) -> Option<()> {
     let regions = [Region::Heap, Region::Unique, A, B, C, D];
     let mut got = String::new(alloc);

@@ -1,4 +1,4 @@
-//! This file tests devices that fail; a user of such a device sees only that a run ends.
+//! This file tests input and output devices that fail; a user of a failing device sees only that a run ends.
 
 use crate::devices::FailsOnce;
 use crate::expect::expect;
@@ -13,7 +13,7 @@ fn expect_byte<A: Abort, I: ByteIn>(rt: &A, input: &mut I, want: Option<u8>) {
     }
 }
 
-/// The inner reader and writer would succeed again after their failure, but they are not called again.
+/// The reader and the writer inside the tested devices would succeed again after their failure, but the devices do not call them again.
 #[test]
 fn a_failure_stays(rt: HostRuntime) {
     let mut input = Reader::new(FailsOnce::new(2));

@@ -329,8 +329,8 @@ module _ (w : List (Region × Region)) (live : List Region) where
         (λ k. absurd (never_true_and_false k not_outlived))
         (λ k. absurd (never_true_and_false k not_outlived))
 
-    -- if the index of a newly opened scope is stored for its region, not live before, the table of opening indexes is correct
-    -- for this scope too
+    -- the table of opening indexes is correct for a newly opened scope, if the table stores this scope's index for its
+    -- region, and the region was not live before
     pub in_order-new : opening_of openings s.region ≡ length scopes →
         (is_outlived_by_live s.kind ≡ true → (b : Region) → above w s.region b ≡ region_eq s.region b) →
         is_region_among s.region (live_before live scopes (length scopes)) ≡ false →

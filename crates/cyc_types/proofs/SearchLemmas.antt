@@ -31,7 +31,7 @@ pub reverse-take_more : (scopes : List Scope) (i : ℕ) (d : Scope) → i < leng
 reverse-take_more scopes i d h = ap reverse (take_more scopes i d h) ∙ reverse-append (take i scopes) (get_or scopes i d ∷ [])
 
 module _ (w : List (Region × Region)) (live : List Region) where
-  -- opening further scopes keeps every path between regions
+  -- every path between regions over the open scopes is still a path after further scopes are opened
   leads-grows : (newer opened : List Scope) (a b : Region) → leads w live opened a b ≡ true → leads w live (newer ++ opened) a b ≡ true
   leads-grows [] opened a b h = h
   leads-grows (s ∷ ss) opened a b h = or_left (leads w live (ss ++ opened) a b) _ (leads-grows ss opened a b h)
@@ -107,7 +107,7 @@ module _ (w : List (Region × Region)) (live : List Region) where
       (above_one_of w (live_regions live (reverse (take i scopes))) x) u)
 
 -- Invariant of the search for paths to region b: the oldest i scopes are visited, and a recorded scope index decides which regions have a
--- path over these scopes to b. Region a has no such path.
+-- path over these scopes to b. Region a has no path over the visited scopes to b.
 pub record IsSearched (w : List (Region × Region)) (live : List Region) (scopes : List Scope) (i : ℕ) (known : Option ℕ) (a b : Region) : Type 0 where
   pub same : (x : Region) → leads w live (reverse (take i scopes)) x b ≡ (above w x b || is_above_known w live scopes known x)
   pub within : (x : Region) → is_above_known w live scopes known x ≡ true →

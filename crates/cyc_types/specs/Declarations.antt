@@ -1,5 +1,5 @@
--- The declarations of a typed statement: its locals and its regions, in the order of their numbers. The order of declarations by numbers is
--- this project's own choice.
+-- The locals and the regions that a typed statement declares, in the order of the indices that identify them. The order of declarations by
+-- numbers is this project's own choice.
 use Rattle.std.specs.Prelude.{ℕ, suc, ◌+◌, List, [], ◌∷◌, ◌++◌, Option, None, Some}
 use Rattle.cyc_types.specs.declared.region.Region.TheVariants as regions
 use Rattle.cyc_types.specs.Types.{Ty, Int, Handle, Key}

@@ -1,6 +1,6 @@
--- A record of requirements (`Demands`) has one condition for each kind of typed tree node that some such record restricts. A node of any
--- other kind satisfies a record of requirements if all its subtrees satisfy the record. Each form of the language has one line in this
--- file, which all records of requirements share. Demands as records are this project's own choice.
+-- A record of requirements (`Demands`) has one condition for each kind of typed tree node that at least one record of requirements
+-- restricts. A node of any other kind satisfies a record of requirements if all its subtrees satisfy the record. Each form of the
+-- language has one line in this file, which all records of requirements share. Demands as records are this project's own choice.
 use Rattle.std.specs.Prelude.{ℕ, List, [], ◌∷◌, Option, Some, None}
 use Rattle.cyc_types.specs.declared.typed.PointerOperator.{PointerOperator}
 use Rattle.cyc_types.specs.TypedTrees.{Expression, Number, Load, AddressOfCell, NumberOfElements, FreeUnique, FreeKey, Call, Unary, Binary, Assign, Store, New, Dereference, Target, Member, Element, Placement, OnHeap, AsUnique}

@@ -1,5 +1,5 @@
--- The ranges of the numbers of globals, functions, locals and regions in a typed tree that later passes require.
--- The ranges are this project's own choice.
+-- The numbers that identify globals, functions, locals and regions in a typed tree lie in ranges that later
+-- passes require; this file defines the ranges. The ranges are this project's own choice.
 use Rattle.std.specs.Prelude.{◌≡◌, ℕ, suc, ◌+◌, ◌<◌, List, [], ◌∷◌, Option, Some, map, length, slice_get}
 use Rattle.cyc_types.specs.declared.typed.Callee.{Callee}
 use Rattle.cyc_types.specs.declared.typed.Callee.TheVariants as callees
@@ -11,7 +11,8 @@ use Rattle.cyc_types.specs.typing.WellTyped.{signature_of}
 abbrev pub signatures_of : List Function → List Signature
 signatures_of hs = map signature_of hs
 
--- the counts of declared globals, functions, locals and regions, below which their numbers in a typed tree lie
+-- the counts of declared globals, functions, locals and regions; in a typed tree, the numbers that identify a
+-- global, function, local or region lie below these counts
 pub record Numbering : Type 0 where
   pub globals : ℕ
   pub functions : List Signature

@@ -9,7 +9,7 @@ use Rattle.cyc_types.specs.declared.region.Region.TheVariants.{Heap, Unique, Var
 
 -- ---- regions: a test for equality, and the substitution of region variables
 
--- substitutes regions in a region: region variable n becomes the region at index n of the list, if there is one
+-- substitutes regions in a region: region variable n becomes the region at index n of the list, if the list has this index
 abbrev pub substituted_region : List Region → Region → Region
 substituted_region regions Heap = Heap
 substituted_region regions Unique = Unique

@@ -1,8 +1,8 @@
--- The weight of a typed tree is a lower bound on the number of tokens that spell it; passes bound their output by it. The weight of a
--- typed tree equals that of a syntax tree, except that parentheses and optional parts weigh nothing. Optional parts are an `else` with an
--- empty statement, the value 0 or null of a global, and the `void` of an empty parameter list. Labels, regions after pointer signs (`*`,
--- `@`, `?`), effects and constraints are optional too. Structs and exceptions weigh nothing, because they have no code. The definition of
--- the weight of a typed tree is this project's own choice.
+-- The weight of a typed tree is a lower bound on the number of tokens that spell it; passes bound the size of their output by the weight.
+-- The weight of a typed tree equals that of a syntax tree, except that parentheses and optional parts of the syntax weigh nothing. Optional
+-- parts of the syntax are an `else` with an empty statement, the value 0 or null of a global, and the `void` of an empty parameter list.
+-- Further optional parts of the syntax are labels, regions after pointer signs (`*`, `@`, `?`), effects and constraints. Structs and
+-- exceptions weigh nothing, because they have no code. The definition of the weight of a typed tree is this project's own choice.
 use Rattle.std.specs.Prelude.{ℕ, zero, suc, ◌+◌, Option, None, Some}
 use Rattle.cyc_syntax.specs.Sums.{sum_of, separated_weight, optional_weight}
 use Rattle.cyc_types.specs.declared.typed.UnaryOperator.{UnaryOperator}

@@ -95,7 +95,8 @@ fn grow(variables: &mut Vec<Option<usize>>, number: usize) -> Result<(), AllocEr
 impl ConstraintTable {
     ghost use Rattle.std.specs.Prelude.{◌≡◌, IfOk};
 
-    /// Returns the table of these constraints, in which those with a given longer-lived region are found without a search.
+    /// Returns the table of these outlives constraints, in which the constraints with a given longer-lived region are
+    /// found without a search.
     pub(crate) fn new(
         alloc: Global,
         constraints: Vec<Constraint>,

@@ -29,8 +29,8 @@ pub struct Outlives {
     live: RegionList,
     /// The scopes that are open, oldest first.
     scopes: Vec<Scope>,
-    /// For each region variable with an open scope, the index of the oldest such scope. Entries of region variables without an
-    /// open scope are meaningless.
+    /// For each region variable with an open scope, the index of the oldest open scope of this region variable. Entries of
+    /// region variables without an open scope are meaningless.
     openings: Vec<usize>,
     /// The number of oldest scopes for which the table `openings` is correct. For these oldest scopes, `openings` decides
     /// which regions are live and which regions outlive each other.
@@ -225,9 +225,9 @@ fn is_above_live(
 
 /// Returns true if a path of the constraints and the open scopes leads from region `a` to region `b`.
 ///
-/// The scopes are visited from the oldest to the newest. Once all regions live at some scope outlive `b`, a later scope adds something only
-/// if the later scope's own region outlives `b`. If a later scope's own region outlives `b`, all regions live at that later scope outlive
-/// `b` too.
+/// The scopes are visited from the oldest to the newest. Once all regions live at some scope outlive `b`, a later scope makes further
+/// regions outlive `b` only if the later scope's own region outlives `b`. If a later scope's own region outlives `b`, all regions live at
+/// that later scope outlive `b`.
 fn leads(
     constraints: &ConstraintTable,
     live: &[Region],

@@ -1,10 +1,11 @@
 //! The typed tree. The type checker builds the typed tree from an abstract syntax tree, and every later pass reads it.
 //!
-//! In a typed tree, each name is resolved to a number. A local has its number in its function: parameters first, then declarations in
-//! order. A struct, an exception, a global and a function have their numbers in the program. The nodes of a typed tree distinguish the uses
-//! of a variable's value and the kinds of an operator's operands. In a typed tree each conversion is explicit, and parentheses are removed.
-//! The meaning of a typed tree needs neither an environment of names nor the types of operands. Chains of operators are lists, so a typed
-//! tree is no deeper than its syntax tree. Rare and large fields of nodes are stored in boxes, so that a node is small.
+//! In a typed tree, each name is resolved to a number. A local is identified by its index in its function: parameters first, then
+//! declarations in order. A struct, an exception, a global and a function are identified by their numbers in the program. The nodes of a
+//! typed tree distinguish the uses of a variable's value and the kinds of an operator's operands. In a typed tree each conversion is
+//! explicit, and parentheses are removed. The meaning of a typed tree needs neither an environment of names nor the types of operands.
+//! Consecutive operators of one precedence level are a list, so a typed tree is no deeper than its syntax tree. Rare and large fields of
+//! nodes are stored in boxes, so that a node is small.
 //!
 //! A node of a typed tree stores a source position if a later pass may report a fault there, or if the node's code can end the execution.
 
@@ -99,7 +100,7 @@ pub enum PointerOperator {
     NullIsNot,
 }
 
-/// The type of an expression, which may also have no value or be the null pointer.
+/// The type of an expression, with a case for an expression without a value and a case for the null pointer.
 #[derive(Drop)]
 pub enum ValueType {
     /// The expression has no value.
@@ -336,7 +337,8 @@ pub enum Stmt {
         items: Vec<Item>,
     },
     Empty,
-    /// An expression statement, with the source position of its first token; a swap also stores the position of its first token.
+    /// An expression statement, with the source position of its first token. A swap statement (`:=:`) stores the source position
+    /// of its first token, like an expression statement.
     Evaluate {
         span: Span,
         value: Expr,

@@ -30,7 +30,8 @@ reached_is r w h =
     ∙ ap (λ d. reached_after (settled None w.asked) d r.value.region) h.cell
     ∙ ap (reached_after (settled None w.asked) w.cell) h.region
 
--- If a fault was already found, the result of a check is the same for any value, because a fault is returned instead of the value.
+-- If a fault was already found, the result of a check does not depend on the checked value, because a fault is returned instead of
+-- this value.
 refused_alike : (known : Option Fault) (f : Fault) (a b : typed.Expression) → unless (lesser known f) a ≡ unless (lesser known f) b
 refused_alike None f a b = refl
 refused_alike (Some e) f a b = by_test (nat_lt (number_of f.code) (number_of e.code))

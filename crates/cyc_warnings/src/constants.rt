@@ -1,8 +1,8 @@
 //! This file computes the values of constant expressions of a program, for warnings about these values.
 use cyc_syntax::{BinaryOperator, Expr, Operation, PrefixOperator};
 
-/// The deepest nesting of expressions that are evaluated. The subexpressions are evaluated again at each nesting level, so without a
-/// limit the work would grow with the square of the depth.
+/// The deepest nesting of constant expressions that are evaluated to find warnings. The subexpressions are evaluated again at each
+/// nesting level, so without a limit the work would grow with the square of the depth.
 const DEEPEST: u32 = 12;
 
 /// Returns the value of a constant expression. Returns `None` if the expression is not constant, or if the sign of a value would

@@ -534,8 +534,8 @@ impl Finder {
         }
     }
 
-    /// Searches an operation for warnings that depend on the operator and its right operand or, if the operator is
-    /// the first of a chain, also on the left operand.
+    /// Searches a binary operator and its right operand for warnings. If the operator is the first of consecutive
+    /// operators of one precedence level, warnings may also depend on its left operand.
     fn look_at_operation(&mut self, left: Option<&Expr>, operation: &Operation) {
         let (span, operand) = (operation.span, &operation.operand);
         match operation.operator {
@@ -566,7 +566,8 @@ impl Finder {
         }
     }
 
-    /// Searches the right operand of `||` or `&&` for warnings, and also the left operand if the operator is the first of a chain.
+    /// Searches the right operand of `||` or `&&` for warnings. If the operator is the first of several consecutive `||` or `&&`,
+    /// the left operand is searched for warnings as well.
     fn look_at_truths(&mut self, left: Option<&Expr>, operand: &Expr) {
         if let Some(left) = left {
             if is_no_truth(left) {

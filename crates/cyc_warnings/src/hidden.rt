@@ -1,5 +1,5 @@
-//! This file finds characters that are invisible or change the direction of the surrounding text. In an accepted text these
-//! characters can occur only in comments, which the tree does not contain, so the search reads the bytes.
+//! This file finds characters that are invisible or change the direction of the surrounding text. In an accepted text these characters can
+//! occur only in comments. The syntax tree does not contain comments, so this file searches the bytes of the text.
 use cyc_words::Span;
 
 /// Returns true if three bytes are, or begin, a hidden character in UTF-8. Hidden characters are control characters beyond ASCII;

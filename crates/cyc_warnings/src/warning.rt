@@ -86,8 +86,8 @@ pub struct Found {
     pub named: Span,
 }
 
-/// The largest number of warnings that are shown for a text. The line of each warning is searched from the beginning of the text, so an
-/// unlimited number of warnings would take quadratic time.
+/// The largest number of warnings that are shown for a text. To find the line of each warning, the text is read from its beginning, so
+/// an unlimited number of warnings would take quadratic time.
 pub const MOST_WARNINGS: usize = 20;
 
 /// Returns true if the first source position is before the second.

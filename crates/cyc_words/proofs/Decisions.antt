@@ -28,7 +28,7 @@ module _ {X A : Type 0} (Accepted : A → Type 0) (Gives : A → X → Type 0) (
   decides result accepted refused =
       record { accepted = accepted; refused = refused; accepts = accepts result accepted refused; refuses = refuses result accepted refused }
 
--- A call with a correct result satisfies `Decides` also if the accepted value is computed from the result by a function `view`.
+-- If a function `view` computes the accepted value from the result of a call, and the result is correct, then the call satisfies `Decides`.
 pub decides_by_view : {X A : Type 0} (view : X → A) (Accepted : A → Type 0) (Refused Faulty : Fault → Type 0) → IsDecided Accepted Refused Faulty
     → (result : Result X Fault) → IfOk result (λ x. Accepted (view x)) → IfErr result (λ f. (f ≡ memory_fault) ⊎ Refused f)
     → Decides Accepted (λ a x. view x ≡ a) Refused Faulty result

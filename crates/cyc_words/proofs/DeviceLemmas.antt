@@ -51,7 +51,7 @@ TakesText-append a b c xs ys (Ok v) h k = Appends-append a b c xs ys h k
 TakesText-append a b c xs ys (Err e) h k =
     (xs ++ k.0, IsPrefix-append_both xs k.0 ys k.1, Appends-append a b c xs k.0 h k.2)
 
--- A failure of a device within a text is also a failure within each longer text.
+-- If a device fails while it takes a text, then the same failure is a failure while it takes any longer text that begins with this text.
 pub TakesText-fails : {A E : Type 0} (a b : Option (List ℕ)) (xs ys : List ℕ) (r : Result A E) → IsErr r → TakesText a xs r b → TakesText a (xs ++ ys) r b
 TakesText-fails a b xs ys (Ok v) err h = cc
 TakesText-fails a b xs ys (Err e) err h =

@@ -7,7 +7,7 @@ pub mod SeenLemmas
 pub mod EndingLemmas
 pub mod DeviceLemmas
 pub mod Decisions
--- These modules have lemmas on tests, lists and numbers.
+-- These modules have lemmas on boolean tests, lists and numbers.
 pub mod Booleans
 pub mod Lists
 pub mod Numbers

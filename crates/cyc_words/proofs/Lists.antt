@@ -1,4 +1,4 @@
--- This file is about the items of a list, and the rest of the list after an item.
+-- This file is about the elements of a list, and the rest of the list after an element.
 use Rattle.std.proofs.Common.{◌≡◌, ℕ, zero, suc, ◌+◌, ◌<◌, List, [], ◌∷◌, ◌++◌, length, drop, get_or, Option, Some, None, refl, sym, ap, ◌∙◌, arith, ◌-◌, reverse, take, ◌≤◌, append_assoc, replicate, map, append-nil}
 use Rattle.std.specs.List.{slice_get, AllByRecursion}
 use Rattle.std.proofs.lemmas.List.{drop_more, length-append, reverse-append, take-append-drop, length-reverse, length-drop, drop_at, drop-drop, take_all, take_more}

@@ -1,4 +1,4 @@
--- This file has lemmas on the order of numbers and on the tests of this order.
+-- This file has lemmas on the order of numbers and on the boolean tests of this order.
 use Rattle.std.proofs.Common.{◌≡◌, ◌≢◌, ℕ, suc, ◌<◌, ◌≤◌, true, false, nat_eq, arith, zero, refl, ap, inl, inr, sym, ◌∙◌, ◌+◌, Bool, cond, max, ◌*◌, pred, ◌/◌, div-mul-le_self, ◌%◌, ◌^◌, bit_and}
 use Rattle.std.specs.Prelude.{nat_lt, ◌==◌, if◌then◌else◌, ◌⊎◌, nat_le, ◌&&◌, ◌-◌, not}
 use Rattle.std.proofs.lemmas.Bool.{cond-true, eq-eqb, cases_lt, leb-true, ltb-true, false_from_ne_true, le-leb, ne_eqb, eqb-true, not_from_false, cases_eq}

@@ -111,7 +111,7 @@ module _ (above below : Machine) (m : Matching above below) (steps : Steps above
   Continues n = (places : List above.Place) (state : above.State) (met : List below.Place) (here : below.State) (rest : List below.Place) (now : below.State)
       → IsMatched places state met here → length rest < n → Path below rest here now → Shown (met ++ rest) now
 
-  -- The lower machine's run has visited all code positions of the upper machine's step, so the runs match again.
+  -- The lower machine's run has visited all code positions that match the upper machine's step, so the runs match again.
   arrives : (places : List above.Place) (state : above.State) (met all : List below.Place) (here : below.State) → IsInside places state met [] → (next : IsMatchedStep above below m state all here) → IsMatched (places ++ above.place state ∷ []) next.next met here
   arrives places state met all here inside next = record {
     path = Path-step above places start state next.next inside.path next.step;
@@ -154,8 +154,8 @@ module _ (above below : Machine) (m : Matching above below) (steps : Steps above
             omega (arith, inside.paid price, first, equal);
       })
 
-  -- If a visited code position is counted among those visited before, and no longer among the rest, the lower run still
-  -- corresponds to an upper run.
+  -- If one visited code position is grouped with the positions visited after it, instead of those visited before it,
+  -- the lower machine's run still corresponds to a run of the upper machine.
   moved : (met : List below.Place) (r : below.Place) (rest : List below.Place) (now : below.State) → Shown ((met ++ r ∷ []) ++ rest) now → Shown (met ++ r ∷ rest) now
   moved met r rest now shown = subst (λ (l : List below.Place). Shown l now) (append_assoc met (r ∷ []) rest) shown
 
@@ -171,8 +171,8 @@ module _ (above below : Machine) (m : Matching above below) (steps : Steps above
       moved met r rest now
       (during n continues places state (met ++ r ∷ []) back all mid rest now (meets places state met q r back (sym stands ∙ met_here) inside) (goes mid step) (omega arith) path)
 
-  -- A step of the upper machine begins. If no code positions of the lower machine match it, the step is
-  -- complete at once; otherwise the first of them is visited.
+  -- A step of the upper machine begins. If no code positions of the lower machine match the step, the
+  -- step is complete at once; otherwise the lower machine visits the first matching code position.
   begins : (n : ℕ) → Continues n → (places : List above.Place) (state : above.State) (met all : List below.Place) (here : below.State) (rest : List below.Place) (now : below.State)
       → ((next : above.State) → m.weight next < m.weight state → IsMatched (places ++ above.place state ∷ []) next met here → Shown (met ++ rest) now)
       → IsInside places state met all → Comes below (IsOnTheWay above below state) (IsMatchedStep above below m state all) all here
@@ -203,7 +203,7 @@ module _ (above below : Machine) (m : Matching above below) (steps : Steps above
       })
       stepped.comes short path
 
-  -- The upper machine's run has ended, so the lower machine's run has ended too and stays unchanged.
+  -- The upper machine's run has ended, so the lower machine's run has ended and stays unchanged.
   ends : (places : List above.Place) (state : above.State) (met : List below.Place) (here : below.State) (rest : List below.Place) (now : below.State) (ending : Ending)
       → IsMatched places state met here → above.status state ≡ Ended ending → Path below rest here now → Shown (met ++ rest) now
   ends places state met here rest now ending matched ended path =
@@ -236,7 +236,8 @@ module _ (above below : Machine) (m : Matching above below) (steps : Steps above
   continues (suc n) places state met here rest now matched short path =
       turns n (continues n) (suc (m.weight state)) places state met here rest now (omega arith) matched short path
 
-  -- Before the first match, too, a lower run corresponds to a run of the upper machine, while the initial code positions are visited.
+  -- Before the two machines' states first match, while the lower machine visits its initial code positions, its run already
+  -- corresponds to a run of the upper machine.
   comes_first : (met back : List below.Place) (here : below.State) (rest : List below.Place) (now : below.State) → above.status start ≡ Running
       → ((price : below.Place → ℕ) → sum_by price met + sum_by price back ≤ sum_by price before)
       → Comes below (IsOnTheWay above below start) (m.Matches start) back here → Path below rest here now → Shown (met ++ rest) now
@@ -269,7 +270,7 @@ module _ (above below : Machine) (m : Matching above below) (steps : Steps above
 
 -- ---- composition of two passes
 
--- If a run of the lower machine may show an observation, then a run of the upper machine may show it too.
+-- If a run of the lower machine may show an observation, then a run of the upper machine may show the same observation.
 may_show : (above below : Machine) (before : List below.Place) (own : above.Place → List below.Place) (start : above.State) (met : List below.Place) (now : below.State)
     → IsUnderWay above below before own start met now ⊎ IsOver above below start now → MayShow above start (below.seen now)
 may_show above below before own start met now (inl u) = u.following

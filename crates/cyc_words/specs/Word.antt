@@ -52,14 +52,16 @@ shr_of a k = a / 2 ^ (k % 32)
 unfoldable pub sar_of : ℕ → ℕ → ℕ
 sar_of a k = unsigned (floor_div (signed a) (2 ^ (k % 32)))
 
--- The comparison of two words as signed numbers: 1 if a is less than b, otherwise 0. The next definition compares them as unsigned words.
+-- The comparison of two words as signed numbers: 1 if a is less than b, otherwise 0. The definition `sltu_of` compares two words as
+-- unsigned numbers.
 unfoldable pub slt_of : ℕ → ℕ → ℕ
 slt_of a b = if int_lt (signed a) (signed b) then 1 else 0
 
 abbrev pub sltu_of : ℕ → ℕ → ℕ
 sltu_of a b = if nat_lt a b then 1 else 0
 
--- The quotient of signed numbers, rounded toward zero. The next definition is the remainder, which has the dividend's sign.
+-- The quotient of two words as signed numbers, rounded toward zero. The definition `rem_of` is the remainder, which has the
+-- dividend's sign.
 unfoldable pub div_of : ℕ → ℕ → ℕ
 div_of a b = unsigned (int_div (signed a) (signed b))
 

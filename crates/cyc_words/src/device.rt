@@ -25,7 +25,8 @@ pub trait ByteIn {
 
     /// Returns the next byte, or `None` at the end of the input.
     ///
-    /// Any call of `next` may return `Failed`; each later call then returns `Failed` too. A failure does not change the reported bytes.
+    /// Any call of `next` may return `Failed`; after such a failure, each later call returns `Failed`. A failure does not change the
+    /// bytes that the device reports as unread.
     fn next(&mut self) -> Result<Option<u8>, Failed>
         ensures bytes { Gives (remaining self.old) result (remaining self.new) }
         ensures fails { failed self.new ≡ is_err result }
@@ -49,7 +50,8 @@ pub trait ByteOut {
 
     /// Takes one byte.
     ///
-    /// Any call of `put` may return `Failed`; each later call then returns `Failed` too. A failure does not change the reported bytes.
+    /// Any call of `put` may return `Failed`; after such a failure, each later call returns `Failed`. A failure does not change the
+    /// bytes that the device reports as written.
     fn put(&mut self, byte: u8) -> Result<(), Failed>
         ensures bytes { Takes (written self.old) byte result (written self.new) }
         ensures fails { failed self.new ≡ is_err result }

@@ -7,8 +7,8 @@ use std::io::Read;
 
 /// An input device over a reader of std. The device reports the unread bytes if the reader reports them.
 ///
-/// Each call of the device makes one read of one byte. A read of 0 bytes is the end of the input. An error of the reader, also
-/// `Interrupted`, is a failure; after a failure the reader is never called again.
+/// Each call of the device makes one read of one byte. A read of 0 bytes is the end of the input. Every error of the reader,
+/// even `Interrupted`, is a failure; after a failure the reader is never called again.
 #[derive(Drop)]
 pub struct Reader<R> {
     inner: R,

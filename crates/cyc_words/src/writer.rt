@@ -7,8 +7,8 @@ use std::io::Write;
 
 /// An output device over a writer of std. The device reports the bytes written to it if the writer reports the bytes that it holds.
 ///
-/// Each call of the device makes one write of one byte. A write that takes no byte is a failure, and so is an error of the writer, also
-/// `Interrupted`. After a failure the writer is never called again. The device never flushes the writer.
+/// Each call of the device makes one write of one byte. A write that takes no byte is a failure. Every error of the writer, even
+/// `Interrupted`, is a failure. After a failure the writer is never called again. The device never flushes the writer.
 #[derive(Drop)]
 pub struct Writer<W> {
     inner: W,

@@ -174,8 +174,8 @@ fn answer_words(rt: &HostRuntime, words: &[String], is_one: bool) -> Option<Answ
     }
 }
 
-/// Performs a command for each of several files, as if each were the only one. Returns the first answer other than `done`. If the
-/// command line is wrong or asks for help, no further file is handled.
+/// Performs a command for each of several files, as if each file were the only one. Returns the first answer other than `done`.
+/// If the command line is wrong or asks for help, the remaining files are not handled.
 fn answer_each(rt: &HostRuntime, line: Line) -> Option<Answer> {
     let Line {
         mut words,

@@ -1,8 +1,8 @@
 """The words of a function's frame, which the limit of frames speaks of: they are counted on the tree alone."""
 from .types import NOTHING, NULL, is_fat
 
-# The numbers of machine words in a stack frame: for the frame itself, for a `try`, for an address, and for an array `for`
-# besides its element.
+# The counts of machine words that a stack frame holds for itself, for a `try`, for an address, and for an array `for`
+# (besides the array's element).
 FRAME_ITSELF = 24
 TRY_WORDS = 6
 PLACE_WORDS = 3

@@ -58,8 +58,8 @@ sunk code from (suc count) = swap (sunk code from count) (from + count) (from + 
 abbrev pub sunk_from : List Line → (from count : ℕ) → List Line
 sunk_from code from count = if comes_down code from count then sunk code from count else code
 
--- Returns the lines after the instruction `count` lines before `number` is moved to the branch or jump there, if it then fills the
--- delay slot.
+-- Returns the lines of the code after one instruction is moved down to the branch or jump at line `number`. The instruction is
+-- `count` lines before that line, and it moves only if it then fills the delay slot.
 abbrev pub tried : List Line → (number count : ℕ) → List Line
 tried code number count =
     if nat_le number count then code

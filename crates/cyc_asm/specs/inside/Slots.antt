@@ -1,5 +1,6 @@
--- The filled delay slots. The instruction just before a branch or jump fills its delay slot, unless the move changes the effect of either
--- of them or another line jumps to the branch. The rule for filling delay slots is this project's own choice.
+-- This file defines the delay slots that an instruction fills. The instruction just before a branch or jump fills its delay slot, unless
+-- the move changes the effect of this instruction or of the branch or jump. The instruction does not fill the delay slot if another line
+-- jumps to the branch or jump. The rule for filling delay slots is this project's own choice.
 use Rattle.std.specs.Prelude.{◌≡◌, ℕ, zero, suc, ◌<◌, Bool, true, false, not, ◌==◌, ◌&&◌, ◌||◌, if◌then◌else◌, List, length, Option, Some, None, slice_get, get_or}
 use Rattle.std.specs.List.{list_any}
 use Rattle.cyc_isa.specs.Uses.{reads, writes}
@@ -27,8 +28,9 @@ leaves instruction (conditions.Registers op left right) =
     not (writes instruction left.number) && not (writes instruction right.number)
 leaves instruction (conditions.Sign op source) = not (writes instruction source.number)
 
--- Returns true if an instruction may be executed after a branch or jump instead of before it. The instruction must not write a register
--- that the branch or jump reads, nor read or write one that it writes. A call writes register 31, and a return reads it.
+-- Returns true if an instruction may be executed after a branch or jump instead of before it. The instruction must write no register
+-- that the branch or jump reads or writes, and read no register that the branch or jump writes. A call writes register 31, and a return
+-- reads it.
 abbrev pub moves : Instr → Line → Bool
 moves instruction (lines.Ordinary other) = false
 moves instruction (lines.Branch condition label) = is_movable instruction && leaves instruction condition
@@ -75,8 +77,8 @@ may_lack fills (Some (lines.Call label)) = false
 may_lack fills (Some line) = true
 may_lack fills None = false
 
--- Returns true if the line with this index is unreachable: no line jumps to it, and the line before is unreachable or never
--- continues there.
+-- Returns true if the line with this index is unreachable: no line jumps to it, and the previous line is unreachable or
+-- never continues at its next line.
 abbrev pub is_unreached_after : (unreached : Bool) → List Line → (number : ℕ) → Bool
 is_unreached_after unreached code zero = false
 is_unreached_after unreached code (suc before) =

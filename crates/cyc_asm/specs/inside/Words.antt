@@ -60,7 +60,7 @@ abbrev pub tail_in : List Line → (number : ℕ) → Option Line → (slot : �
 tail_in code number (Some line) slot = tail_of code number line slot
 tail_in code number None slot = []
 
--- Returns the words of a branch or jump, whose delay slot this instruction fills, if there is one.
+-- Returns the machine words of a branch or jump. If an instruction is given, this instruction fills the delay slot of the branch or jump.
 abbrev pub words_filled : Option Instr → List Line → (number : ℕ) → Line → List ℕ
 words_filled None code number line = word_of (head_of code (position code number) number line) ∷ tail_of code number line 0
 words_filled (Some slotted) code number line = tail_of code number line (word_of slotted)

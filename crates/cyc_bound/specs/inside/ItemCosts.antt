@@ -1,5 +1,5 @@
 -- The costs of the elements of the lists in typed trees (such as the statements of a block), which the code visits element by
--- element. Also the costs found for the size classes of unique blocks.
+-- element. This file also defines the costs found for the size classes of unique blocks.
 use Rattle.std.specs.Prelude.{◌≡◌, ◌<◌, ◌≤◌, ℕ, suc, ◌+◌, ◌*◌, ◌^◌, max, List, [], ◌∷◌}
 use Rattle.cyc_words.specs.Demand.{greatest_class}
 use Rattle.cyc_types.specs.TypedTrees.{Program}
@@ -26,8 +26,8 @@ abbrev pub clauses_then : Measure → (costs : List ℕ) → List Clause → (la
 clauses_then m costs [] last = last
 clauses_then m costs (c ∷ cs) last = step_cost m + max (caught_cost m c.number (items_cost m costs (items_of c.items.items))) (clauses_then m costs cs last)
 
--- says that `pages` is the number of pages of the size classes before `class`, and that the costs
--- of these classes are below the greatest counted value
+-- Says that `pages` is the number of pages for the unique blocks of size classes below `class`.
+-- Says also that the costs of these classes are below the greatest counted value.
 abbrev pub AreUniquesSoFar : Program → (cost : Measure → ℕ) → (class pages : ℕ) → Type 0
 AreUniquesSoFar program cost class pages =
     (pages ≡ unique_pages cost class) × ((pages ≤ class * 2 ^ 51) × ((other : ℕ) → other < class → IsRunCost program (measures.Uniques other) (cost (measures.Uniques other)) × (cost (measures.Uniques other) < too_many)))
@@ -35,7 +35,7 @@ AreUniquesSoFar program cost class pages =
 abbrev pub UniquesSoFar : Program → (class pages : ℕ) → Type 0
 UniquesSoFar program class pages = (cost : Measure → ℕ) × AreUniquesSoFar program cost class pages
 
--- says that the result is the number of pages of all size classes, or the reason why there is no bound
+-- says that the result is the number of pages for the unique blocks of all size classes, or the reason why there is no bound on these pages
 abbrev pub IsUniqueAnswer : Program → PageBound → Type 0
 IsUniqueAnswer program (bounds.Pages pages) = UniquesSoFar program (suc greatest_class) pages
 IsUniqueAnswer program bounds.TooMany = (class : ℕ) × (class ≤ greatest_class) × IsRunCost program (measures.Uniques class) too_many

@@ -1,5 +1,5 @@
--- The costs of the declarations and statements of blocks that are visited one by one for regions. The file also defines the costs for
--- regions open at the same time, and the costs for the pages of regions.
+-- The costs of the declarations and statements of blocks, which the code visits one by one to find the costs of regions. The file
+-- also defines the costs for regions open at the same time, and the costs for the pages of regions.
 use Rattle.std.specs.Prelude.{◌≡◌, ◌<◌, ◌^◌, ℕ, Bool, true, false, List, Option, Some, None}
 use Rattle.cyc_types.specs.TypedTrees.{Item, Execute, DeclareRegion, Program}
 use Rattle.cyc_bound.specs.declared.costs.Measure.{Measure}
@@ -35,7 +35,7 @@ IsOfRegions m = Unit {0}
 abbrev pub AreRegionsCounted : Program → (gives_back : Bool) → (cost : Measure → ℕ) → Type 0
 AreRegionsCounted program gives_back cost = (m : Measure) → IsForPages gives_back m → IsOfRegions m → IsCost program gives_back m (cost m) × (cost m < too_many)
 
--- says that the result is the number of pages of regions, or the reason why there is no bound
+-- says that the result is the number of pages of regions, or the reason why there is no bound on these pages
 abbrev pub IsRegionAnswer : Program → (gives_back : Bool) → PageBound → Type 0
 IsRegionAnswer program gives_back (bounds.Pages pages) = (cost : Measure → ℕ) × AreRegionsCounted program gives_back cost × (pages ≡ most_region_pages gives_back cost) × (pages < 2 ^ 53)
 IsRegionAnswer program gives_back bounds.TooMany = (m : Measure) × IsForPages gives_back m × IsCost program gives_back m too_many

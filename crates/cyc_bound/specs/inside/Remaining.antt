@@ -57,7 +57,7 @@ site_of_owner (InRegion zero) = sites.Heap
 site_of_owner (InRegion (suc region)) = sites.Region
 site_of_owner (Unique live) = sites.Unique
 
--- the number of bytes of struct fields, from their values listed newest first
+-- the number of bytes of struct fields, computed from the list of the field values, in which the last field comes first
 abbrev pub bytes_before : List Operand → ℕ
 bytes_before [] = 0
 bytes_before (v ∷ before) = following v.kind (bytes_before before)

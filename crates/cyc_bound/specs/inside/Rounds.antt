@@ -11,8 +11,9 @@ use Rattle.cyc_bound.specs.Costs.{next_costs, Below, IsClosed, AreCosts, IsRunCo
 abbrev pub raised : Program → Measure → (costs : List ℕ) → (function : ℕ) → List ℕ
 raised program m costs f = set costs f (max (get_or costs f 0) (get_or (next_costs program m costs) f 0))
 
--- Says that a round raised the costs of functions. No function costs less than before, or less than its body with the costs before. Any
--- sufficient costs that are at least the costs before the round are also at least the costs after it.
+-- Says that a round of the search raised the costs of functions. No function costs less after the round than before it, or less than
+-- its body with the costs before the round. Any sufficient costs that are at least the costs before the round are also at least the
+-- costs after it.
 pub record AreRaised (program : Program) (m : Measure) (before after : List ℕ) : Type 0 where
   pub all : length after ≡ length before
   pub more : Below before after

@@ -1,4 +1,5 @@
--- The requirements of the typing rules on a call, divided into those on regions and the others.
+-- The requirements of the typing rules on a call, divided into the requirements on regions and all
+-- requirements that do not concern regions.
 use Rattle.std.specs.Prelude.{List, ◌++◌, map}
 use Rattle.cyc_syntax.specs.Symbols.{Place}
 use Rattle.cyc_syntax.specs.Trees.{Expressions}

@@ -16,7 +16,8 @@ use Rattle.cyc_types.specs.typing.Tests.{regions_eq, ty_eq}
 use Rattle.cyc_types.specs.typing.Expressions.{conversion, passed_demanded, all_paired, paired, paired_argument, paired_arguments, is_unique_for_variable, variables_demanded}
 use Rattle.cyc_calls.specs.inside.Instances.{noted_place, noted_places, instance_in}
 
--- Returns the regions of a table in which the regions at further occurrences are also recorded.
+-- Returns the regions that a table gives to region variables after the regions at later occurrences
+-- of these variables are recorded in the table.
 abbrev pub instance_later : List (Option Region) → List (Region × Region) → List Region
 instance_later table later = instance_in (noted_places table later)
 

@@ -18,12 +18,12 @@ use Rattle.cyc_operands.specs.inside.Operands.{value_in}
 abbrev pub with_kinds : ConvertedCode → TyCode → ConvertedCode
 with_kinds c t = record c { from = kind_of_value (type_of (value_in c)); to = kind_of (view_ty t) }
 
--- Sets the source and target types of the argument at an index, if there is one.
+-- Sets the source type and the target type in the conversion of the argument at an index, if there is an argument at this index.
 abbrev pub with_kinds_at : Option ConvertedCode → List ConvertedCode → ℕ → TyCode → List ConvertedCode
 with_kinds_at None cs i t = cs
 with_kinds_at (Some c) cs i t = slice_set cs i (with_kinds c t)
 
--- Sets the source and target types of each argument for which there is a type.
+-- Sets the source type and the target type in the conversion of each argument for which the list of types has an element.
 abbrev pub all_with_kinds : List ConvertedCode → List TyCode → List ConvertedCode
 all_with_kinds [] ts = []
 all_with_kinds (c ∷ cs) [] = c ∷ cs

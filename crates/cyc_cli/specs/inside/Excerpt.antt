@@ -11,7 +11,7 @@ use Rattle.cyc_cli.specs.declared.excerpt.Excerpt.{Excerpt}
 abbrev pub lines_of : List ℕ → List (List ℕ)
 lines_of text = slice_split (λ b. b == 10) text
 
--- Line `n` of a text, counted from 1, without its line feed; after the last line, the empty line.
+-- Line `n` of a text, counted from 1, without its line feed; the empty line if the text has fewer than `n` lines.
 abbrev pub line_at : List ℕ → ℕ → List ℕ
 line_at text n = slice_index_or (lines_of text) (n - 1) []
 
@@ -31,14 +31,15 @@ shown_byte b = if b == 9 then 9 ∷ []
     else (if nat_le 32 b && nat_le b 126 then b ∷ []
     else escaped_byte b))
 
--- White space as wide as `shown_byte`: a tab for a tab, otherwise a space for each character.
+-- White space as wide as the display of a byte by `shown_byte`: a tab for a tab, otherwise as many spaces as the display has characters.
 abbrev pub blank_byte : ℕ → List ℕ
 blank_byte b = if b == 9 then 9 ∷ [] else replicate (length (shown_byte b)) 32
 
--- Holds for the characters beyond ASCII that are invisible, end a line or change the writing direction of a terminal. The hidden characters
--- are Unicode's control characters (Cc) and the following format characters (Cf). They include the Arabic letter mark; zero-width spaces
--- and joiners and direction marks (U+200B to 200F); line separators, embeddings and overrides of direction (U+2028 to 202E). They also
--- include invisible operators and isolates of direction (U+2060 to 206F), the byte-order mark, and the tags.
+-- Holds for the characters beyond ASCII that are invisible, end a line or change the writing direction of a terminal. The hidden
+-- characters are Unicode's control characters (Cc) and some format characters (Cf). The hidden format characters include the Arabic
+-- letter mark; zero-width spaces and joiners and direction marks (U+200B to 200F); line separators, embeddings and overrides of
+-- direction (U+2028 to 202E). The hidden characters include invisible operators and isolates of direction (U+2060 to 206F), the
+-- byte-order mark, and the tags.
 abbrev pub is_hidden : ℕ → Bool
 is_hidden c = is_in_range 0x80 0x9f c || c == 0x61c || is_in_range 0x200b 0x200f c || is_in_range 0x2028 0x202e c
     || is_in_range 0x2060 0x206f c || c == 0xfeff || is_in_range 0xe0000 0xe007f c

@@ -14,8 +14,8 @@ use Rattle.cyc_cli.specs.declared.json.Entry.{Entry}
 abbrev pub control_char : ℕ → List ℕ
 control_char c = 92 ∷ codes "u00" ++ (digit_glyph false (c / 16) ∷ digit_glyph false (c % 16) ∷ [])
 
--- A character of a JSON string: quotes and backslashes follow a backslash, control characters are written by their numbers,
--- any other character is unchanged.
+-- A character of a JSON string: quotes and backslashes are written after a backslash, control characters as escapes with
+-- their code numbers, any other character unchanged.
 abbrev pub string_char : ℕ → List ℕ
 string_char c = if c == 34 then 92 ∷ 34 ∷ []
     else (if c == 92 then 92 ∷ 92 ∷ []

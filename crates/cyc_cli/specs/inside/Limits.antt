@@ -15,8 +15,8 @@ pub record AreInRange (pages calls : Option ℕ) : Type 0 where
   pub pages_fit : IfSome pages (λ n. (MIN_PAGES ≤ n) × (n ≤ MAX_PAGES))
   pub calls_fit : IfSome calls (λ n. (MIN_CALLS ≤ n) × (n ≤ MAX_CALLS))
 
--- The limits on pages and calls that are stored in a compiled image: none if no limit is given, otherwise both, with the
--- default for a limit that is not given.
+-- The limits on pages and calls that are stored in a compiled image. If neither limit is given, no limits are stored; if
+-- only one limit is given, the default is stored for the other limit.
 abbrev pub carried_by : (pages calls : Option ℕ) → Option (ℕ × ℕ)
 carried_by None None = None
 carried_by None (Some calls) = Some (DEFAULT_PAGES, calls)
@@ -36,7 +36,7 @@ abbrev pub limits_by : Given → (note : Option (ℕ × ℕ)) → Bounds
 limits_by given None = record { pages = unwrap_or given.pages DEFAULT_PAGES; calls = unwrap_or given.calls DEFAULT_CALLS }
 limits_by given (Some limits) = record { pages = unwrap_or given.pages limits.0; calls = unwrap_or given.calls limits.1 }
 
--- A number, or the given upper bound (cap) if there is one and the number is above it.
+-- Returns the smaller of a number and an upper bound (cap), or the number itself if there is no upper bound.
 abbrev pub capped : Option ℕ → ℕ → ℕ
 capped None n = n
 capped (Some most) n = min n most

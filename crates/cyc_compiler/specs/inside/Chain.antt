@@ -14,7 +14,8 @@ use Rattle.cyc_lower_proof.specs.inside.Slots.{global_types}
 use Rattle.cyc_lower_proof.specs.inside.Lowering.{span_of_place}
 use Rattle.cyc_lower_proof.specs.inside.Lowered.{FollowsSource}
 
--- The plain function for a source function: it has the same name, and its frame has the same size, or neither frame is too large.
+-- The plain (lowered) function for a source function has the source function's name. The frames of both functions have equal
+-- sizes, or neither frame is too large.
 pub record IsFunctionOf (h : Function) (r : Routine) : Type 0 where
   pub name : r.name ≡ span_of_place h.place
   pub frame : (r.frame_count ≡ frame_count h) ⊎ ((frame_count h ≤ max_frame_words) × (r.frame_count ≤ max_frame_words))

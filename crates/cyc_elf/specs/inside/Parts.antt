@@ -10,8 +10,8 @@ use Rattle.cyc_elf.specs.Note.{is_note, limits_at}
 use Rattle.cyc_elf.specs.Outline.{fields_of}
 use Rattle.cyc_elf.specs.Reading.{first_fault, own_rules, is_load, overlap}
 
--- The result of traversing the headers: the loadable headers and the first note's limits found before the first single header that violates
--- a rule, and the fault of that header.
+-- The result of traversing the program headers up to the first header that violates a rule by itself. The result has the loadable headers
+-- and the limits of the first note with limits before that header, and the fault of that header.
 pub record Walk : Type 0 where
   pub loads : List ProgramHeader
   pub note : Option (ℕ × ℕ)
@@ -46,7 +46,7 @@ in_order high (h ∷ rest) =
     then in_order high rest
     else (nat_le high h.vaddr && in_order (h.vaddr + h.memory_size) rest)
 
--- Says that the numbers of a program header fit into four bytes each.
+-- Says that the value of each field of a program header fits in four bytes.
 pub record IsInWords (h : ProgramHeader) : Type 0 where
   pub kind : h.kind < 2 ^ 32
   pub offset : h.offset < 2 ^ 32

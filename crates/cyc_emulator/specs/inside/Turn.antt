@@ -34,13 +34,13 @@ Turned machine machine' x x' old new (Err Read) = (s : State) × Step machine Wa
 Turned machine machine' x x' old new (Err Write) = (byte : ℕ) × (s : State) × Step machine (Puts byte) s × Rests old new
 Turned machine machine' x x' old new (Err e) = ⊥
 
--- `TurnedOver` describes the result of a turn (one instruction) that may also find that the store lacks
--- memory, before the instruction was done.
+-- `TurnedOver` describes the result of a turn, which executes one instruction. The result may also be
+-- that the store lacked memory before the instruction was done.
 abbrev pub TurnedOver : (grows : Bool) (machine machine' : State) (x x' : Exchanged) (old new : Devices) → Result (Option End) RunFault → Type 0
 TurnedOver grows machine machine' x x' old new (Err Memory) = WantsMemory grows machine × Rests old new
 TurnedOver grows machine machine' x x' old new result = Turned machine machine' x x' old new result
 
--- Returns the peaks of calls and pages after one more instruction, if they are counted.
+-- Returns the maximal numbers of active calls and used pages after one more instruction; returns `None` if they are not counted.
 abbrev pub counted_at : Option Peaks → State → Option Peaks
 counted_at None s = None
 counted_at (Some most) s = Some (higher most (uses_at s))

@@ -32,7 +32,7 @@ rule_no_place g p e = Part (rule g e) (λ a. Refused (fault_at codes.NotAPlace p
 abbrev pub rule_by_handle : Scope → Place → Expression → Rule Placed
 rule_by_handle g p e = Part (rule g e) (λ a. gives (by_handle g p a))
 
--- the result of one postfix (such as `[i]` or `->f`) after an operand that begins at position p
+-- the result of checking one postfix (such as `[i]` or `->f`) after an operand that begins at position p
 abbrev pub one_postfix : Scope → Place → typed.Expression → Postfix → Checked Reached
 one_postfix g p a (postfix.Index i) = and_then (run (rule g (view_expression i))) (λ b. Ok (indexed g p a (place_of (view_expression i)) (as_int b)))
 one_postfix g p a (postfix.Field f) = Ok (selected g p a (view_name f))

@@ -74,13 +74,13 @@ Ends (Ok u) fault = fault ≡ None
 Ends (Err stops.Memory) fault = ⊥
 Ends (Err (stops.Refused x n)) fault = fault ≡ Some x
 
--- `Allows` says that the code continues if the rule is satisfied, and otherwise stops with the rule's fault.
+-- `Allows` says that the checker's code continues if the typing or flow rule is satisfied, and otherwise stops with the rule's fault.
 abbrev pub Allows : Result (Unit {0}) Stop → Checked (Unit {0}) → Type 0
 Allows (Ok u) checked = checked ≡ Ok tt
 Allows (Err e) checked = Stops e checked
 
--- `Leads` says that the code's flow state after an expression is the one that the flow rule gives, and that the expression began in the
--- state `start`. It also says that these locals are touched (consumed, assigned or locked).
+-- `Leads` says that the code's flow state after an expression is that of the flow rule, and that the expression began in the state
+-- `start`. `Leads` also says that the list of touched (consumed, assigned or locked) locals is the given one.
 abbrev pub Leads : Result (Unit {0}) Stop → (following : Evaluation) → Checked State → List ℕ → (start : State) → Type 0
 Leads (Ok u) v checked ns start = (checked ≡ Ok (view_state v.state)) × (v.touched.numbers.list ≡ ns) × (begun v ≡ start)
 Leads (Err e) v checked ns start = Stops e checked

@@ -1,4 +1,4 @@
--- Sets of numbers, represented by the bits of a list of words.
+-- Sets of natural numbers, represented as bit sets: one bit of a list of 64-bit words tells whether a number is in the set.
 use Rattle.std.specs.Prelude.{◌≡◌, ℕ, ◌/◌, ◌%◌, Bool, false, ◌==◌, ◌||◌, List, [], ◌∷◌, get_or}
 use Rattle.cyc_flow.specs.inside.Bits.{has_bit}
 
@@ -13,7 +13,8 @@ has_number ws n = has_bit (get_or ws (n / 64) 0) (n % 64)
 abbrev pub Stand : List ℕ → List ℕ → Type 0
 Stand ws ns = (n : ℕ) → has_number ws n ≡ is_among n ns
 
--- Returns the list in which each element is changed by the word at its index, if there is one.
+-- Returns the list in which the function `change` is applied to each element and the word at the same index. Elements without a word at
+-- their index stay unchanged.
 abbrev pub with_words : {X : Type 0} (change : X → ℕ → X) → List X → (words : List ℕ) → List X
 with_words f [] ws = []
 with_words f (x ∷ xs) [] = x ∷ xs

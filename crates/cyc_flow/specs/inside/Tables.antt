@@ -26,7 +26,7 @@ marks_at ms place = get_or ms place no_marks
 abbrev pub known_at : List Marks → (number : ℕ) → Fullness
 known_at ms number = marked (marks_at ms (number / 64)) (number % 64)
 
--- Returns the list of the function's values at all numbers below `n`.
+-- Returns the list of the values of a function from local indices to flow states, for all indices below `n`, in order.
 abbrev pub each_below : ℕ → (ℕ → Fullness) → List Fullness
 each_below zero f = []
 each_below (suc n) f = f 0 ∷ each_below n (λ i. f (suc i))

@@ -108,7 +108,7 @@ pub record AreFrames (program : Program) (frames : List Frame) : Type 0 where
   pub fills : (k : ℕ) → k < length program.functions
       → AreFillable program (routine_at program k) (frame_at frames k).homes (frame_at frames k).fills
 
--- Returns true if a function's frame is too large.
+-- Returns true if a function's stack frame has more than `MOST_FRAME_WORDS` words.
 abbrev pub is_too_large : Routine → Bool
 is_too_large r = nat_lt MOST_FRAME_WORDS r.frame_count
 
@@ -120,7 +120,7 @@ first_too_large (r ∷ routines) = if is_too_large r then Some r.name else first
 abbrev pub HasSmallFrames : Program → Type 0
 HasSmallFrames program = (k : ℕ) → k < length program.functions → (routine_at program k).frame_count ≤ MOST_FRAME_WORDS
 
--- `IsTooLarge` says that a fault is that for the first function whose frame is too large.
+-- `IsTooLarge` says that a fault reports the first function whose stack frame has more than `MOST_FRAME_WORDS` words.
 pub record IsTooLarge (program : Program) (fault : Fault) : Type 0 where
   pub function : ℕ
   pub is_function : function < length program.functions

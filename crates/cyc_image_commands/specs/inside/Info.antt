@@ -63,7 +63,8 @@ has_form entry segments = if entry == text_base then are_of_program segments els
 abbrev pub form_line : Bool → List ℕ
 form_line form = if form then codes "form of this compiler\n" else codes "form another\n"
 
--- The complete text of `info`, from the entry address, the segments, and the image's note that states its limits.
+-- The complete text that the command `info` prints about an image, made from its entry address, its segments, and
+-- the note that states its limits.
 abbrev pub reported_of : (entry : ℕ) → List Extent → Option (ℕ × ℕ) → List ℕ
 reported_of entry segments note = codes "entry at " ++ (address_text entry ++ (codes "\n" ++ (flat_map segment_line segments
     ++ (limits_line note ++ form_line (has_form entry segments)))))

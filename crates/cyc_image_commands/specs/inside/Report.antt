@@ -85,7 +85,7 @@ amount_fields report = codes "\"most_calls\":" ++ (number_or_null (option_map (�
     ++ (codes ",\"most_pages\":" ++ (number_or_null (option_map (λ (peaks : Peaks). peaks.pages) report.peaks)
     ++ (codes ",\"read\":" ++ (decimal report.read ++ (codes ",\"written\":" ++ (decimal report.written ++ codes "}\n")))))))
 
--- The JSON fields of all numbers in the report; if there is no report of the run, each field is null.
+-- The JSON fields of all numbers in the report of a run; if there is no report, each field is null.
 abbrev pub figure_fields : Option Report → List ℕ
 figure_fields (Some report) = place_fields report ++ amount_fields report
 figure_fields None = codes "\"limit\":null,\"instructions\":null,\"counter\":null,\"most_calls\":null,\"most_pages\":null,\"read\":null,\"written\":null}\n"

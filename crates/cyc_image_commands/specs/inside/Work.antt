@@ -45,12 +45,13 @@ AnswersNoImage image answer = (answer ≡ NoMemory) ⊎ ((fault : ElfFault) × (
 abbrev pub grows_in : Manner → Bool
 grows_in manner = elim manner.store [ Plain ↦ true | Pages ↦ false ]
 
--- True if the maximal numbers of active calls and pages are counted: only with the heap as a pool of pages, and only if requested.
+-- True if a run counts the maximal numbers of active calls and used pages. A run counts these maxima only if the heap is a pool of
+-- pages, and only if this is requested.
 abbrev pub counts_peaks : Manner → Bool
 counts_peaks manner = elim manner.store [ Plain ↦ false | Pages ↦ manner.counting ]
 
--- Says that the image was run with the devices and the requested heap implementation, and that the answer and the report are the run's.
--- The report contains the maximal numbers of calls and pages exactly if they were requested.
+-- Says that the image was run with the devices and the requested heap implementation, and that the answer and the report are those of
+-- this run. The report contains the maximal numbers of calls and pages exactly if they were requested.
 pub record AnswersRun (image : List ℕ) (limits : Bounds) (budget : ℕ) (manner : Manner) (old new : Devices) (answer : Answer) (report : Option Report) : Type 0 where
   pub outcome : Result Report RunFault
   pub runs : AnswersAnew (grows_in manner) (reading image) limits budget old new outcome
@@ -58,7 +59,8 @@ pub record AnswersRun (image : List ℕ) (limits : Bounds) (budget : ℕ) (manne
   pub reported : report ≡ report_of_run outcome
   pub counted : IfSome report (λ r. is_some r.peaks ≡ counts_peaks manner)
 
--- Says that the instructions of the image were listed to the output device, and that the answer is that of the listing's outcome.
+-- Says that the instructions of the image were listed to the output device, and that the command's answer follows from the
+-- outcome of this listing.
 pub record AnswersListing (image : List ℕ) (old new : Option (List ℕ)) (answer : Answer) : Type 0 where
   pub outcome : Result (Unit {0}) RunFault
   pub shows : Shows (reading image) old new outcome

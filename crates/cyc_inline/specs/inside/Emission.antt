@@ -93,7 +93,8 @@ AreLeafs program lines = (k : ℕ) → 0 < place_in lines k → IsLeaf (routine_
 abbrev pub call_size : Program → (in_line : Bool) → Call → ℕ
 call_size program in_line call = site_size call (routine_at program call.callee).results in_line (routine_at program call.callee).code
 
--- Says that the callee of a call is so small that its instructions can be counted.
+-- Says that the callee of a call exists and has at most `MOST_LEAF_CODE` instructions, and that the
+-- call's `count` is at most `MOST_GROWTH`.
 pub record IsSmallCall (program : Program) (call : Call) : Type 0 where
   pub is_function : call.callee < length program.functions
   pub few : length (routine_at program call.callee).code ≤ MOST_LEAF_CODE
@@ -162,7 +163,8 @@ may_hoisted globals given slots (instructions.Binary operator destination left r
 may_hoisted globals given slots (instructions.LoadGlobal destination global) = is_further given slots destination && nat_lt global globals
 may_hoisted globals given slots instruction = false
 
--- The instructions requested for hoisting that may be hoisted before an instruction; the list is empty if too many are requested.
+-- The instructions requested for hoisting that may be hoisted before an instruction. The list of these instructions is empty if
+-- more than `MOST_HOISTED` are requested.
 abbrev pub all_hoisted_of : (globals given slots : ℕ) → Instruction → (wanted : List Instruction) → List Instruction
 all_hoisted_of globals given slots i wanted = if may_follow_hoisted i && nat_le (length wanted) MOST_HOISTED then filter (may_hoisted globals given slots) wanted else []
 

@@ -71,7 +71,8 @@ abbrev pub inside_size : (results line : ℕ) → (in_line : Bool) → (index : 
 inside_size results line in_line index [] = 0
 inside_size results line in_line index (i ∷ code) = count_in results line in_line index (is_end i) + inside_size results line in_line (suc index) code
 
--- The code positions of the callee's instructions, if `here` is the next position at the call and `there` the next after the caller's code.
+-- The code positions of the callee's instructions. The next free position is `here` in the code at the call, and `there` in the code after
+-- the caller's code.
 abbrev pub inside_places : (results line index here there : ℕ) → List Instruction → List ℕ
 inside_places results line index here there [] = []
 inside_places results line index here there (i ∷ code) =
@@ -83,7 +84,8 @@ inside_places results line index here there (i ∷ code) =
 abbrev pub places_inside : Site → (here : ℕ) → List Instruction → (index : ℕ) → ℕ
 places_inside site here code = place_in (inside_places site.results site.call.line 0 (here + site.call.count + 1) site.rest code)
 
--- The code in the place of an inlined call: moves of the arguments, the check of stack space, and the callee's instructions placed there.
+-- The code that replaces an inlined call: moves of the arguments, the check of stack space, and those of the callee's instructions that
+-- are placed at the call.
 abbrev pub site_code : Site → (in_line : Bool) → (here : ℕ) → List Instruction → List Instruction
 site_code site true here code =
     passing site.shift site.call.arguments site.call.count ++ instructions.Enter site.call.callee ∷ inside_code site (places_inside site here code) true 0 code

@@ -67,7 +67,8 @@ same_item ks i other inside =
 abbrev pub KindsLeft : List ConvertedCode → (i : ℕ) → List Kind → Type 0
 KindsLeft cs i ks = ks ++ kinds_passed (arguments_of (drop i cs)) ≡ kinds_passed (arguments_of cs)
 
--- `BytesLeft` says that the bytes counted so far and those of the remaining cells are the bytes of the object.
+-- `BytesLeft` says that the bytes of an object's cells counted so far, plus the bytes of its remaining cells,
+-- are the bytes of the whole object.
 abbrev pub BytesLeft : List Kind → (i bytes : ℕ) → Type 0
 BytesLeft ks i bytes = bytes_from bytes (drop i ks) ≡ bytes_from 0 ks
 
@@ -91,7 +92,7 @@ bytes_low ks i bytes kind inside at few left =
     let least : following kind bytes ≤ bytes_from (following kind bytes) rest = bytes-least (following kind bytes) rest in
     omega (arith, all, least, few, begins_is kind bytes (omega (arith, all, least, few)))
 
--- `SlotsLeft` says that the slots counted so far and those of the remaining values are the slots of all values.
+-- `SlotsLeft` says that the slots of the values counted so far, plus the slots of the remaining values, are the slots of all values.
 abbrev pub SlotsLeft : List Kind → (first i slot : ℕ) → Type 0
 SlotsLeft ks first i slot = slot + slots_of_kinds (drop i ks) ≡ first + slots_of_kinds ks
 

@@ -59,13 +59,13 @@ operates starts o l r d = omega arith
 -- ---- lists
 
 -- `Lowers` says that the code of a list of tree nodes is emitted one node after the other. Each tree node has a code position and a
--- state, such as the next slot. The code of a tree node may depend on the remaining nodes of the list.
+-- state, such as the next slot. The code of a tree node may depend on the tree nodes after it in the list.
 pub record Lowers {X S : Type 0} (all : List X → ℕ → S → List Instruction) (one : X → List X → ℕ → S → List Instruction) (next : X → List X → S → S) : Type 0 where
   pub none : (p : ℕ) (s : S) → all [] p s ≡ []
   pub more : (x : X) (xs : List X) (p : ℕ) (s : S) → all (x ∷ xs) p s ≡ one x xs p s ++ all xs (p + length (one x xs p s)) (next x xs s)
 
--- `Remains` says that the code so far, extended by the code of the rest of the list, is the old code extended by the
--- code of the whole list.
+-- `Remains` says that the code emitted so far, followed by the code of a list's remaining nodes, equals the code
+-- from before the list, followed by the code of the whole list.
 abbrev pub Remains : {X S : Type 0} → (all : List X → ℕ → S → List Instruction) → (old : List Instruction) → (xs : List X) → (first : S) → (i : ℕ) → (code : List Instruction) → S → Type 0
 Remains all old xs first i code s = code ++ all (drop i xs) (length code) s ≡ old ++ all xs (length old) first
 

@@ -19,7 +19,7 @@ value_word : (t : Ty) (n : ℕ) → IsWord n → IsWord (word_of t n)
 value_word types.Char n w = omega arith
 value_word t n w = w
 
--- The constant of a negative global value is a 32-bit word too, because negative values are wrapped.
+-- The constant of a negative global value is a 32-bit word, because a negative value is stored modulo 2^32.
 global_constants : (t : Ty) (v : Option GlobalValue) → IsOfWordsGlobalValue v → IsOfWordsConstant (constant_of t v)
 global_constants t None w = either_constant (is_pointer t)
 global_constants t (Some (Positive p n)) w = value_word t n w

@@ -239,7 +239,7 @@ module _ (source : Program) (pages calls : ℕ) where
         (m, subst (λ t. ItemsAt g (bounds_at source n) (types_at source n) h.body outside_loops t 0 m) (sym least) items, stack m end, holds, parameters_fit n h there),
       )
 
-  -- If no further call fits in the call stack, then the source run and the plain run both end for lack of space.
+  -- If the call stack has no space for one more call, then the source run and the plain run both end for lack of space.
   full : (k : List Entry) (e : Environment) (w : World) (c : Configuration) (focus : Focus) (next : State) (n first many into : ℕ)
       → step source (Running focus k e w) ≡ next → is_within pages calls next ≡ false
       → (shared : SharedAt source pages calls k e w c) → At (code_of source c.active.function) c.active.next (instructions.Call n first many into)
@@ -327,7 +327,7 @@ module _ (source : Program) (pages calls : ℕ) where
                 (λ m at_end. (base_of source n, at_end, (refl, refl), back)))
           ]
 
-  -- A call of `putchar` with one argument too many has a step that the source semantics rejects.
+  -- If `putchar` is called with more than one argument, the source semantics rejects the step that performs the call.
   prints_more : (i : Kind) (v : Value) (u : Kinded) (before : List Kinded) (k : List Entry) (e : Environment) (w : World) (c : Configuration) → IsStep source pages calls (Calling callees.Putchar (record { kind = i; value = v } ∷ u ∷ before)) k e w c
   prints_more i (Int a) u before k e w c well related = absurd (well refl)
   prints_more i v u before k e w c well related = absurd (well refl)

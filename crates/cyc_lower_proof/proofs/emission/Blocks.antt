@@ -82,8 +82,8 @@ pub record BlocksStand (code : List Instruction) (raises slot : ℕ) : Type 0 wh
   pub reported : (p : ℕ) (i : Instruction) → At code p i → target_of i ≡ raises + 1 → HasAt code (raises + 1) (telling slot)
   pub within : (p : ℕ) (i : Instruction) → At code p i → 1 ≤ target_of i → p < raises
 
--- The instruction with a given index in the blocks that raise exceptions exists if more than this
--- number of their instructions are kept at the end of the function.
+-- The instruction with index `number` in the blocks that raise exceptions is in the function's code
+-- if more than `number` instructions of these blocks remain there.
 block_there : (code : List Instruction) (p slot n number : ℕ) (i : Instruction) → HasAt code p (take n (blocks slot)) → number < n → At (blocks slot) number i → At code (p + number) i
 block_there code p slot n number i has some is = taken_there (blocks slot) p n number has some is
   where

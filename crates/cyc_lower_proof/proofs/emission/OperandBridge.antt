@@ -53,7 +53,7 @@ cut p q a b end = omega (arith, end, length-append a b)
 module _ (code : List Instruction) (b : Numbering) (types : Types) (raised : BlocksStand code types.raises (words_of_all types.locals)) where
   -- ---- operands
 
-  -- Either an operand is a slot or constant that needs no instructions, or the instructions that compute it are at this position.
+  -- Either an operand is a slot or constant that needs no instructions, or the instructions that compute the operand begin at position `p`.
   pub operand_by : (known : Option Operand) (computed : Type 0) (x : List Instruction) (slot p q : ℕ) → p + length (code_unless known x) ≡ q → HasAt code p (code_unless known x)
       → (p + length x ≡ q → HasAt code p x → computed) → OperandBy code b types known computed slot (operand_or known slot) p q
   operand_by (Some o) computed x slot p q end has stands = (refl, omega (arith, end))
@@ -65,8 +65,8 @@ module _ (code : List Instruction) (b : Numbering) (types : Types) (raised : Blo
   returned_by (Some (operands.Word n)) computed x slot p q end has stands = (refl, stands end has)
   returned_by None computed x slot p q end has stands = (refl, stands end has)
 
-  -- Either the right operand of an operator needs no code, or the operand's code is at this position and a given property of the
-  -- left operand holds.
+  -- Either the right operand of an operator needs no code, or the operand's code begins at position `p` and a given property of
+  -- the left operand holds.
   pub right_by : (known : Option Operand) (left computed : Type 0) (x : List Instruction) (slot p q : ℕ) → left → p + length (code_unless known x) ≡ q → HasAt code p (code_unless known x)
       → (p + length x ≡ q → HasAt code p x → computed) → OperandBy code b types known (left × computed) slot (operand_or known slot) p q
   right_by (Some o) left computed x slot p q there end has stands = (refl, omega (arith, end))

@@ -1,5 +1,5 @@
--- This file is about the region handles that are kept in slots while the values of new objects are evaluated. It treats the words
--- of these handles, and the handles that remain when a value is passed to the next evaluation step.
+-- This file is about the region handles that are in slots while the values of new objects are evaluated. It treats the words of
+-- these handles, and the handles that are still needed when a value is passed to the next evaluation step.
 use Rattle.std.proofs.Common.{◌≡◌, ℕ, ◌≤◌, true, List, ◌∷◌, Some, slice_get, sym, ap, subst, ◌∙◌, arith}
 use Rattle.cyc_store.specs.declared.range.TheConstants.{HEAP}
 use Rattle.cyc_plain.specs.declared.instruction.Operand.{Operand}
@@ -10,7 +10,7 @@ use Rattle.cyc_meaning.specs.State.{Owner, InRegion, Unique, heap_number, Beside
 use Rattle.cyc_memory_relation.specs.inside.Tables.{Tables}
 use Rattle.cyc_lower_proof.proofs.relation.contents.HeldValues.{Holds, held, height, kept, IsHandleOf, HasHandle}
 
--- The region handles that are kept during an evaluation are among the values that the evaluation holds.
+-- The region handles that are in slots during an evaluation are among all values that the evaluation holds in slots.
 pub kept_holds : (t : Tables) (slots : Words) (base : ℕ) (k : List Entry) → Holds t slots base (held k) → Holds t slots base (kept k)
 kept_holds t slots base (Needs (BesideHandle region) ∷ k) (is, holds) = kept_holds t slots base k holds
 kept_holds t slots base k holds = holds

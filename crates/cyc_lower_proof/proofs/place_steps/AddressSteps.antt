@@ -1,4 +1,5 @@
--- This file is about code that needs the address of a cell in a slot: the address is already there, or one instruction moves it there.
+-- This file is about code that needs the address of a cell in a slot: the address is in this slot already, or one instruction moves it
+-- to this slot.
 use Rattle.std.proofs.Common.{◌≡◌, ℕ, zero, suc, ◌+◌, ◌^◌, ◌<◌, Bool, true, false, refl, subst, ◌∙◌, arith, add-zero}
 use Rattle.std.proofs.lemmas.Bool.{eqb-true}
 use Rattle.cyc_words.specs.Word.{add_of}

@@ -131,7 +131,7 @@ module _ (source : Program) {t : Tables} {w : World} (c : Configuration) {locals
     | inr wide ↦ wide_stored object offset address h cell wide points alive there
   ]
 
-  -- If consecutive words represent a value, then the same words counted from 0 represent the value too.
+  -- If consecutive words from index `first` on represent a value, then these words with indices counted from 0 represent the value.
   in_row : (kind : Kind) (v : Value) (words : Words) (first : ℕ) → Is t kind v words first → Is t kind v (λ j. words (first + j)) 0
   in_row kind v words first is = Is-same t kind v words (λ j. words (first + j)) first 0 (λ i below. ap words (let e : first + (0 + i) ≡ first + i = omega arith in e)) is
 

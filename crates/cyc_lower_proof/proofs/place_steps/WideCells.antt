@@ -66,7 +66,8 @@ parts_of c = record { store = c.store; globals = c.globals; slots = c.active.slo
 abbrev pub stage : Configuration → Parts → (next : ℕ) → Configuration
 stage c s next = record c { store = s.store; globals = s.globals; active = record c.active { next = next; slots = s.slots }; frames = s.frames }
 
--- Says that at two stages of the write of a cell, the heap store requests equally many pages, and there are equally many frames of calls.
+-- Compares the states of the machine at two stages of the write of a cell: the heap stores request equally many pages, and the call
+-- stacks have equally many frames.
 abbrev IsAsFar : Parts → Parts → Type 0
 IsAsFar s others = (demand others.store ≡ demand s.store) × (length others.frames ≡ length s.frames)
 
@@ -476,12 +477,12 @@ module _ (source : Program) (pages calls : ℕ) (k : List Entry) (e : Environmen
   pub above_stored : (m : ℕ) → base_of source c.active.function ≤ m → stored.active.slots m ≡ c.active.slots m
   above_stored = is_saved.above
 
-  -- The value stored in a cell also remains in the slots from which it was stored.
+  -- After a value is stored in a cell, the slots from which it was stored still hold the value.
   pub value_stays : (j : ℕ) → j < 3 → stored.active.slots (n + j) ≡ c.active.slots (n + j)
   value_stays = is_saved.value
 
-  -- After the three stores, the invariant that source run and lowered run share still holds with the same tables of
-  -- objects. After the three stores, the facts about the data of all calls hold too.
+  -- After the three stores of a fat pointer's words, the invariant that source run and lowered run share still
+  -- holds with the same tables of objects. The facts about the data of all calls hold after these stores as well.
   abbrev pub shared_stored : SharedAt source pages calls k e next stored
   shared_stored = record {
     tables = shared.tables;

@@ -38,8 +38,8 @@ use Rattle.cyc_lower_proof.proofs.slots.CellBytes.{begins_within, after_within, 
 
 -- ---- instructions
 
--- Says that the lowering may emit an instruction. Such an instruction contains only 32-bit words, is not a return that leaves handlers
--- open, and is not an `Enter`.
+-- Says that the lowering may emit an instruction. An instruction that the lowering may emit contains only 32-bit words, is not a
+-- return that leaves handlers open, and is not an `Enter`.
 abbrev pub IsMade : Instruction → Type 0
 IsMade (instructions.Return value) = ⊥
 IsMade (instructions.Enter function) = ⊥

@@ -169,7 +169,8 @@ blocks_in program r locals slot (suc (suc (suc n))) room = ((room, room, tt), ((
     by (suc (suc (suc zero))) = ((tt, tt), ((tt, tt), ((tt, tt), ((tt, tt), tt))))
     by (suc (suc (suc (suc n)))) = ((tt, tt), ((tt, tt), ((tt, tt), ((tt, tt), tt))))
 
--- At least n instructions of the blocks that raise exceptions are kept, or all six of them if n is greater than six.
+-- At least `n` instructions of the blocks that raise exceptions remain in the code, or all six instructions of these
+-- blocks if `n` is greater than six.
 pub blocks_many : (slot n : ℕ) → min n 6 ≤ length (take (blocks_kept n) (blocks slot))
 blocks_many slot zero = omega arith
 blocks_many slot (suc zero) = omega arith

@@ -432,7 +432,7 @@ module _ (starts : Starts) where
         let front = dynamic_code starts n t in
         omega (arith, code_size-append front (items_code starts js (p + length front) exits t), items_size js (p + length front) exits t)
 
-    -- If no clause of a `try` catches the exception, then the code throws the exception again.
+    -- If no catch clause of a `try` catches an exception, then the code of the clauses throws this exception again.
     clauses_size : (cs : Clauses) (p out : ℕ) (exits : Exits) (t : ℕ) → code_size (clauses_code starts cs p out exits t) ≤ 24 + size_per_weight * clauses_weight cs
     clauses_size NoClauses p out exits t = omega arith
     clauses_size (Default r js) p out exits t = omega (arith, items_size js p exits t)

@@ -87,7 +87,8 @@ module _ (program : PlainProgram) (r : Routine) (b : Numbering) (types : Types) 
 
   -- ---- exits
 
-  -- Holds if all slots of the handler record or saved region count that begins at this slot, if there is one, exist in the function.
+  -- Given the first slot of a handler record or of a saved region count: holds if all slots of this record or count exist in the
+  -- function. If no slot is given, it holds as well.
   abbrev IsRecord : Option ℕ → Type 0
   IsRecord None = Unit {0}
   IsRecord (Some first) = first + RECORD_WORDS ≤ r.slots

@@ -44,7 +44,8 @@ module _ (view : List TyCode → List Ty) (one : TyCode → Ty) where
 
   -- ---- fields
 
-  -- Says that the bytes counted so far and the bytes of the remaining fields add up to the bytes before the field.
+  -- Says that the bytes counted so far, plus the bytes of the remaining fields that come before the given field,
+  -- are all bytes before the given field.
   abbrev pub BytesLeft : List TyCode → (field i bytes left : ℕ) → Type 0
   BytesLeft ts field i bytes left = field_from bytes (view (drop i ts)) left ≡ field_from 0 (view ts) field
 

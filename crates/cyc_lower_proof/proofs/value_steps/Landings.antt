@@ -207,7 +207,7 @@ module _ (source : Program) (pages calls : ℕ) where
 
   -- ---- values that are converted at their destinations
 
-  -- a value is moved to the next temporary and converted there
+  -- A value is moved to the next temporary slot and converted in this slot.
   pub brings : (t : Tables) (from to : Kind) (a : Expression) (k : List Entry) (locals : ℕ → Option ℕ) (g p : ℕ) (slots : Words) (frames : List Frame) (m q : ℕ)
       → BroughtAt (code_of source g) (bounds_at source g) (types_on source g k) (Convert from to a) (top source g k) (top source g k) p m
       → ConversionAt (code_of source g) (bounds_at source g) (types_on source g k) from to (span_of a) (operands.Slot (top source g k)) (top source g k) m q

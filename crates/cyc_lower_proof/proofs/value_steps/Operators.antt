@@ -302,7 +302,7 @@ module _ (source : Program) (pages calls : ℕ) where
 
   -- ---- chains
 
-  -- The value of the operators before the rest of an operator chain becomes the left operand of this rest.
+  -- In an operator chain, the value computed by the first operators becomes the left operand of the next operator of the chain.
   chain_lands : (os : Operations) (kind : Kind) (g : ℕ) (locals : ℕ → Option ℕ) (d p q : ℕ) (frames : List Frame) (k : List Entry)
       → OperationsAt (code_of source g) (bounds_at source g) (types_on source g k) os (operands.Slot (next_slot os d (top source g k))) d (top source g k) p q
       → LandsStack source g locals (chain_kind kind os) d q frames k → LandsStack source g locals kind (next_slot os d (top source g k)) p frames (Needs (Chain os) ∷ k)

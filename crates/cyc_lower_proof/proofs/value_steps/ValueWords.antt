@@ -143,7 +143,8 @@ module _ (t : Tables) where
   fat_null kinds.Nullable words p wide is = absurd (omega (arith, wide))
   fat_null kind words p wide is = absurd is
 
-  -- If a conversion does not change a value, then the words of the value represent it after the conversion too.
+  -- If a conversion does not change a value, then the words that represent the value before the conversion
+  -- represent it after the conversion.
   pub kept_at : (from to : Kind) (v : Value) (words : Words) (p : ℕ) → words_of_kind from ≡ words_of_kind to → conversion to v ≡ Gives v → Is t from v words p → Is t to v words p
   kept_at from kinds.Int (Int a) words p wide gives is = int_at from a words p is
   kept_at from kinds.Char (Int a) words p wide gives is =

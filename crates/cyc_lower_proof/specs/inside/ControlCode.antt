@@ -106,8 +106,8 @@ deciding_condition logical.OrElse c = negated_condition c
 abbrev pub deciding_jump : LogicalOperator → Condition → (target : ℕ) → Instruction
 deciding_jump u c target = failing_jump (deciding_condition u c) target
 
--- Tells if two logical operators are equal. The next definition tells if all tests of a chain use one operator and there is at
--- least one test.
+-- Tells if two logical operators are equal. The next definition tells if all operators of an operator chain are one given
+-- logical operator. The definition after that also requires that the chain has at least one operator.
 abbrev pub is_same : (u o : LogicalOperator) → Bool
 is_same logical.AndThen logical.AndThen = true
 is_same logical.OrElse logical.OrElse = true
@@ -140,9 +140,9 @@ abbrev pub over_length : (last : Bool) → ℕ
 over_length true = 0
 over_length false = 1
 
--- The code of a branch at position p: the condition, the jump over the first statement, the first statement, the jump to the end, and
--- the statement after `else`. The condition may also jump to the statement after `else` from inside. The length of the condition's
--- code does not depend on its jump target, so it is measured with an arbitrary target.
+-- The code of an `if` at position `p`: the condition, the jump over the first statement, the first statement, the jump to the end,
+-- and the statement after `else`. Code inside the condition may also jump to the statement after `else`. The length of the
+-- condition's code does not depend on its jump target, so this length is computed with an arbitrary target.
 abbrev pub other_place : (last : Bool) → (condition first : List Instruction) → (p : ℕ) → ℕ
 other_place last condition first p = p + length condition + 1 + length first + over_length last
 
@@ -151,9 +151,10 @@ if_code last condition jump first second p =
     (condition (other_place last (condition 0) first p) ++ jump (other_place last (condition 0) first p) ∷ first)
     ++ (over_code last (other_place last (condition 0) first p + length second) ++ second)
 
--- A loop begins with code that enters it. If the condition holds, then this code continues at the body, and otherwise at the next jump,
--- which goes to the end of the loop. The targets of `continue` (the start of the loop) and `break` (the jump to the end) are known before
--- the body is emitted. After the body comes the condition again, with a jump back to the body if the condition holds.
+-- A loop begins with entry code, which tests the condition or jumps to the test after the body. If the condition holds, the entry code
+-- continues at the body, and otherwise at the next jump, which goes to the end of the loop. The targets of `continue` (the start of the
+-- loop) and `break` (the jump to the end) are known before the body is emitted. After the body comes the condition again, with a jump
+-- back to the body if the condition holds.
 abbrev pub continue_target : Exits → ℕ
 continue_target exits = exits.head
 
@@ -163,8 +164,9 @@ break_target exits = exits.leaving
 abbrev pub body_target : (leaving : ℕ) → ℕ
 body_target leaving = leaving + 1
 
--- A light condition of a loop, that is, one with little code, is also emitted before the body. The copy of a light condition after the
--- body is reached only from the body. A loop whose condition is not copied begins with a jump to the condition at position `test`.
+-- A light condition of a loop, that is, one with little code, is emitted both before and after the body. The copy of a light condition
+-- after the body is reached only from the body. A loop whose condition is emitted only after the body begins with a jump to the
+-- condition at position `test`.
 abbrev pub entry_code : (guarded : Bool) → (condition : List Instruction) → (jump : ℕ → Instruction) → (test p : ℕ) → List Instruction
 entry_code true condition jump test p = condition ++ jump (p + length condition + 1 + 1) ∷ []
 entry_code false condition jump test p = instructions.Jump test ∷ []

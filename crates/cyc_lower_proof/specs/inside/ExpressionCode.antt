@@ -161,7 +161,7 @@ abbrev mutual
       code_unless (operand_of starts a) (expression_code starts a p (value_slot starts a t) t) ++ closing_code (value_operand starts a t)
   expression_code starts (New OnHeap i ty) p d t = made_code starts i (operands.Word HEAP) p d t
   expression_code starts (New AsUnique i ty) p d t = made_code starts i (operands.Word UNIQUE) p d t
-  -- The region handle is kept in slot t while the values of the new object are evaluated.
+  -- The region handle is in slot `t` while the values of the new object are evaluated.
   expression_code starts (New (ByHandle a) i ty) p d t =
       expression_code starts a p t t ++ made_code starts i (operands.Slot t) (p + length (expression_code starts a p t t)) d (t + 1)
 
@@ -186,7 +186,7 @@ abbrev mutual
   arguments_code starts NoArguments p t = []
   arguments_code starts (MoreArguments c cs) p t = converted_code starts c p t ++ arguments_code starts cs (p + length (converted_code starts c p t)) (t + passed_words c)
 
-  -- A value is moved to slot t and converted there.
+  -- A value is moved to slot `t` and converted in this slot.
   pub converted_code : (starts : Starts) → Converted → (p t : ℕ) → List Instruction
   converted_code starts (Convert from to a) p t =
       brought_by from to (operand_of starts a) (expression_code starts a p (value_slot starts a t) t) (value_operand starts a t) (expression_code starts a p t t) t

@@ -56,8 +56,8 @@ pub record IsLowered (source : Program) (lowered : PlainProgram) : Type 0 where
   pub follows : (pages calls base : ℕ) (store : StoreState) (input : List ℕ) → IsNew pages store → 1 ≤ pages → pages ≤ MOST_PAGES → 1 ≤ calls → AllByRecursion (λ b. b < 256) input
       → IsBelow lowered lowered.main base slots_end → FollowsSource source lowered pages calls base store input
 
--- The requirements of lowering on a well-typed tree. The typed tree of a program text satisfies these requirements. The numbers in the
--- tree are 32-bit words. The globals of the tree have at most as many machine words as the text has tokens.
+-- The requirements of lowering on a well-typed tree. The typed tree of a program text satisfies these requirements. The integers in
+-- the tree are 32-bit words. The globals of the tree have at most `MOST_GLOBALS` machine words in all.
 pub record CanBeLowered (source : Program) : Type 0 where
   pub of_words : IsOfWordsProgram source
   pub few_globals : words_of_all (global_types source.globals) ≤ MOST_GLOBALS

@@ -1,6 +1,7 @@
 -- This file defines the plain program as a function of the typed program. Code has absolute positions, so the code of a construct is
--- emitted for a position p. The last instruction of an expression's code moves the value to slot d, so d may be the slot of a local that
--- the expression reads. All other writes go to the slots from t on. Numbers and locals are used as operands without code that moves them.
+-- emitted for a position `p`. The last instruction of an expression's code moves the value to slot `d`, so `d` may be the slot of a local
+-- that the expression reads. All other writes of an expression's code go to the slots from `t` on. Integer constants and locals are used
+-- as operands without code that moves them.
 --
 -- A value occupies as many consecutive slots as its kind has words, and a global occupies as many consecutive words.
 use Rattle.std.specs.Prelude.{◌≡◌, ◌<◌, ◌≤◌, ℕ, zero, suc, ◌+◌, Bool, false, List, [], ◌∷◌, ◌++◌, length, map, replicate, ◌-◌, Option, None, Some, true, ◌||◌, ◌&&◌, is_some, if◌then◌else◌, max, take, not}
@@ -110,10 +111,10 @@ module _ (starts : Starts) where
   abbrev pub tests_code : LogicalOperator → Expression → Operations → (following p t : ℕ) → List Instruction
   tests_code u a os following p t = condition_code a p t ++ others_code u os (condition_of a t) following (p + length (condition_code a p t)) t
 
-  -- A condition that is a chain of tests by one operator: only the last operand is left to the final jump. If an earlier operand
-  -- decides, then control continues after the final jump. The length of the code does not depend on the position after the final jump,
-  -- so the code is first emitted for an arbitrary position. A negated condition uses tests by the opposite logical operator, since an
-  -- operand that decides the tests decides the negated condition too.
+  -- The code of a condition that is a chain of tests by one logical operator. Only the last operand decides by the jump at the end of
+  -- the condition. If an earlier operand decides the condition, then control continues after this jump. The length of the code does
+  -- not depend on the position after this jump, so the code is first emitted for an arbitrary position. A negated condition uses tests
+  -- by the opposite logical operator, since an operand that decides the tests decides the negated condition.
   abbrev pub after_tests : LogicalOperator → Expression → Operations → (p t : ℕ) → ℕ
   after_tests u a os p t = p + length (tests_code u a os 0 p t) + 1
 
@@ -154,8 +155,8 @@ module _ (starts : Starts) where
   is_light (Unary unary.Widen a) = is_light a
   is_light a = is_simple starts a
 
-  -- Tells if a condition is light, that is, has so little code that it may be duplicated. A light condition is an
-  -- expression with little code, or compares two such expressions.
+  -- Tells if a condition is light, that is, has so little code that it may be emitted twice. A light condition is
+  -- an expression with little code, or a comparison of two expressions with little code.
   abbrev pub is_light_comparison : Operator → (a b : Expression) → Bool
   is_light_comparison o a b = is_some (failing_comparison o) && (is_light a && is_light b)
 
@@ -279,8 +280,8 @@ module _ (starts : Starts) where
 -- ---- programs
 
 -- The parameters of the code of a function. The parameters are the structs, the indices of the first words of the globals, and the
--- position after which the blocks that raise exceptions begin. If a `try` saves the number of open lexical regions, then the offset of
--- this number is a parameter too.
+-- position after which the blocks that raise exceptions begin. If a `try` saves the number of open lexical regions, then the offset at
+-- which it saves this number is a parameter as well.
 abbrev pub starts_with : (raises : ℕ) → List StructType → (globals : List ℕ) → (scopes : Option ℕ) → Function → Starts
 starts_with raises structs globals scopes h = record { locals = starts_from 0 (slot_types h); tag_slot = tag_slot h; structs = structs; raises = raises; counters = []; globals = globals; scopes = scopes }
 
@@ -329,8 +330,8 @@ AreTurned far near (i ∷ old) (j ∷ new) = IsTurned far near i j × AreTurned 
 abbrev pub with_blocks : (body : List Instruction) → (slot count : ℕ) → List Instruction
 with_blocks body slot count = body ++ instructions.Finish slot ∷ take count (blocks slot)
 
--- The number of instructions that are kept of the blocks that raise exceptions: up to the last block that is a jump
--- target; the first two instructions form one unit.
+-- The number of instructions of the blocks that raise exceptions that remain in the code: up to the last block that
+-- is a jump target. The first two of these instructions form one block.
 abbrev pub blocks_kept : (farthest : ℕ) → ℕ
 blocks_kept (suc zero) = 2
 blocks_kept n = n

@@ -30,7 +30,7 @@ abbrev pub saved_code : Kind → (address : ℕ) → Operand → List Instructio
 saved_code kind address (operands.Slot n) = stores_code kind (words_of_kind kind) address 0 n
 saved_code kind address (operands.Word n) = store_of kind (operands.Slot address) 0 (operands.Word n) ∷ []
 
--- Stores a value in a cell, whose address is kept in a slot while the value is evaluated.
+-- Stores a value in a cell. The address of the cell is computed first and stays in a slot while the value is evaluated.
 abbrev pub stored_by : (address value : List Instruction) → Kind → (slot : ℕ) → Operand → List Instruction
 stored_by address value kind slot o = address ++ (value ++ saved_code kind slot o)
 

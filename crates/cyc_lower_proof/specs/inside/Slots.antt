@@ -24,9 +24,10 @@ starts_from slot (t ∷ ts) = slot ∷ starts_from (slot + words_of t) ts
 abbrev pub global_types : List GlobalVariable → List Ty
 global_types globals = map (λ (g : GlobalVariable). g.of_type) globals
 
--- The data that determine the layout of slots. The layout is determined by the types of the locals and globals, and by the structs. The
--- layout also depends on the slots of the loop counters that fill the enclosing arrays, outermost first. The blocks that raise exceptions
--- come after the position `raises`. If the program may open lexical regions, a `try` stores the number of open ones at an offset.
+-- The data that determine the layout of a function's slots. The layout is determined by the types of the locals and globals, and by the
+-- structs. The layout also depends on the slots of the loop counters that fill the enclosing arrays, outermost first. The blocks that
+-- raise exceptions come after the position `raises`. If the program may open lexical regions, a `try` stores the number of open lexical
+-- regions at an offset after its handler record.
 pub record Types : Type 0 where
   pub locals : List Ty
   pub structs : List StructType
@@ -35,9 +36,10 @@ pub record Types : Type 0 where
   pub globals : List Ty
   pub scopes : Option ℕ
 
--- The layout of slots. The layout consists of the first slots of the locals, the slot for an exception's tag after them, and the structs.
--- The layout also has the slots of the loop counters of arrays, and the indices of the first words of globals. The layout also has the
--- position after which the blocks come that raise exceptions, and the offset at which a `try` stores the number of open lexical regions.
+-- The layout of a function's slots. The layout consists of the first slots of the locals, the slot after the locals that holds an
+-- exception's tag, and the structs. The layout also has the slots of the loop counters of arrays, and the indices of the first words of
+-- globals. The layout also has the position after which the blocks come that raise exceptions, and the offset at which a `try` stores the
+-- number of open lexical regions.
 pub record Starts : Type 0 where
   pub locals : List ℕ
   pub tag_slot : ℕ

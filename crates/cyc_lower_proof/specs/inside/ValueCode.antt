@@ -157,7 +157,7 @@ abbrev pub raising : (tag : ℕ) → Instruction
 raising tag = instructions.Throw (operands.Word tag) (operands.Word 0)
 
 -- The code that raises the exception of a failed access through a fat pointer. The slot `slot` contains 0 if the pointer is null,
--- and 1 otherwise, which selects the index of the exception.
+-- and 1 if it is not. The sum of this word and the index of the null exception is the index of the raised exception.
 abbrev pub telling : (slot : ℕ) → List Instruction
 telling slot = instructions.Binary plain_binary.Add slot (operands.Slot slot) (operands.Word null_exception) ∷ instructions.Throw (operands.Slot slot) (operands.Word 0) ∷ []
 

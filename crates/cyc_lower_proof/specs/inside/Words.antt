@@ -1,5 +1,5 @@
--- This file says that all numbers of a typed tree that can be lowered are 32-bit words: those in its functions, and the
--- initial values of its globals.
+-- This file says that all integers of a typed tree that can be lowered are 32-bit words: the integers in its functions,
+-- and the initial values of its globals.
 use Rattle.std.specs.Prelude.{List, [], ◌∷◌, Option}
 use Rattle.cyc_words.specs.Word.{IsWord}
 use Rattle.cyc_types.specs.TypedTrees.{Expression, Dereference, Initial, Converted, Arguments, Operations, Side, Statement, Items, Clauses, Constant, Word, Null, GlobalVariable, Function, Program}

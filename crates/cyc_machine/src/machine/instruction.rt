@@ -162,8 +162,8 @@ impl<S: Store + Drop> Machine<S> {
         Event::Ran
     }
 
-    /// Extends the stored memory to the word that a load accesses, if it is a word of the data range or the stack. The fast loop leaves
-    /// to `step` only the first load of each such word, because afterwards the word is stored.
+    /// Extends the stored memory up to the word that a load accesses, if it is a word of the data range or the stack. The fast loop
+    /// leaves to `step` only the first load of each such word, because the word is stored from then on.
     fn keep(&mut self, base: Register, offset: u16)
         ensures { self.new ≡ self.old }
     {

@@ -41,7 +41,7 @@ calls_after focus stack = calls_in stack
 -- ---- changes of the world
 
 -- The effect of one step on the heap state: no change, or one change, such as opening a region or allocating an object. The bytes
--- that the step prints and the number of bytes that it reads are given.
+-- that the step prints and the number of bytes that it reads are parameters of this type.
 pub data Changes (w : World) : (printed : List ℕ) → (count : ℕ) → World → Type 0 where
   Keeps : Changes w [] 0 w
   Opens : (sort : Sort) → Changes w [] 0 (opened_as sort w)
@@ -64,9 +64,9 @@ pages_of w = demand_of (counted w.regions) w.classes
 abbrev pub pages_in : Region → ℕ
 pages_in r = if has_pages r.sort r.is_open then region_pages r.blocks else 0
 
--- States the effect of a change on the number of pages in use. A region that opens needs its first page if it has pages at all, and a
--- region that closes frees its pages. A block may need one more page in its region or in its size class; the pages of a size class never
--- decrease. No other step changes the number of pages in use.
+-- States the effect of a change of the heap state on the number of pages in use. A region that opens needs its first page if it has
+-- pages at all, and a region that closes frees its pages. A new block may need one more page in its region or in its size class; the
+-- number of pages of a size class never decreases. No other step changes the number of pages in use.
 abbrev pub DemandChanges : {w new : World} {printed : List ℕ} {count : ℕ} → Changes w printed count new → Type 0
 DemandChanges {w} {new} (Opens sort) = pages_of new ≡ pages_of w + pages_in (new_region sort)
 DemandChanges {w} {new} (Closes number r found) = pages_of new + pages_in r ≡ pages_of w + pages_in (record r { is_open = false })
@@ -107,7 +107,7 @@ pub record WorldStays (old new : World) : Type 0 where
   pub objects : (number : ℕ) (x : Object) → slice_get old.objects number ≡ Some x
       → (y : Object) × (slice_get new.objects number ≡ Some y) × ObjectStays x y
 
--- Says that regions and objects keep their numbers if the new state is running.
+-- Says that regions and objects keep their indices if the new state is a running state.
 abbrev pub StaysIn : World → State → Type 0
 StaysIn old (Running focus stack e new) = WorldStays old new
 StaysIn old (Ended ending output input) = Unit {0}

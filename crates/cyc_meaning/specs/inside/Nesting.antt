@@ -29,12 +29,13 @@ abbrev pub AreOpen : List Region → List ℕ → Type 0
 AreOpen regions [] = Unit {0}
 AreOpen regions (n ∷ ns) = IsFound (found_region (slice_get regions n)) × AreOpen regions ns
 
--- Says that region numbers are decreasing and below a bound, so that a region that was opened later has a greater number.
+-- Says that the region indices in a list are decreasing and below a bound. A region that was opened later has a greater index.
 abbrev pub AreBelow : ℕ → List ℕ → Type 0
 AreBelow bound [] = Unit {0}
 AreBelow bound (n ∷ ns) = (n < bound) × AreBelow n ns
 
--- Says that variables are allocated in (their home is) the region of variables that closes next; a call begins without such a region.
+-- Says that new variables are allocated in the region of variables that the control stack closes next. When a call begins, it has no
+-- region of variables yet, and the region of the globals takes this role.
 abbrev pub IsHome : ℕ → List Entry → Type 0
 IsHome home [] = home ≡ globals_number
 IsHome home (CloseRegion region outer ∷ stack) = (home ≡ region) × IsHome outer stack
@@ -56,7 +57,7 @@ abbrev pub is_open_scope : Option Region → Bool
 is_open_scope None = false
 is_open_scope (Some r) = is_scope r.sort r.is_open
 
--- Says that the given numbers are exactly those of the open lexical regions.
+-- Says that the given region indices are exactly the indices of the open lexical regions.
 abbrev pub AreScopes : List Region → List ℕ → Type 0
 AreScopes regions ns = (number : ℕ) → is_open_scope (slice_get regions number) ≡ list_any (λ (n : ℕ). n == number) ns
 
@@ -66,8 +67,8 @@ abbrev pub IsNested : List Entry → Environment → World → Type 0
 IsNested stack e w =
     AreOpen w.regions (ends_of stack) × AreBelow (length w.regions) (ends_of stack) × IsHome e.home stack × AreScopes w.regions (lexicals_of stack)
 
--- Returns true if the next action accesses a cell, an object or a region. An access reads or writes a variable or a cell, or
--- compares pointers. Allocating or freeing an object is also an access, and so is opening or closing a region by its key.
+-- Returns true if the next action of a continuation frame accesses a cell, an object or a region. An access reads or writes a variable or a
+-- cell, or compares pointers. Allocating or freeing an object is an access, and so is opening or closing a region by its key.
 abbrev pub is_access_of : Awaiting → Bool
 is_access_of (ApplyPointer peek pointers.EqualThin left) = true
 is_access_of (ApplyPointer peek pointers.NotEqualThin left) = true

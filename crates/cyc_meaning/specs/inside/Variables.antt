@@ -1,6 +1,6 @@
 -- The live variables of blocks: each is a local of one active call. If a local is declared again, its former object was in a block that was
--- left. The former object is out of scope because of the numbering in the text: the numbers of a block's locals are above those in scope
--- around the block. The invariant on live variables is this project's own choice.
+-- left. The former object is out of scope because of the indices of locals in the text: the indices of a block's locals are above the
+-- indices of the locals in scope around the block. The invariant on live variables is this project's own choice.
 use Rattle.std.specs.Prelude.{◌≡◌, ◌⊎◌, ℕ, suc, ◌+◌, ◌<◌, ◌≤◌, Bool, true, false, List, [], ◌∷◌, length, Option, Some, None, slice_get}
 use Rattle.cyc_types.specs.TypedTrees.{Statement, Block, If, While, Try, Items, NoItems, MoreItems, Execute, Declare, DeclareRegion, OpenRegion, DeclareAlias, DeclareKey, Clauses, NoClauses, Default, Case, Function, Program}
 use Rattle.cyc_meaning.specs.State.{Sort, Globals, Stack, Region, Owner, InRegion, Unique, Object, Closed, found_region, globals_number, Initialise, Choose, Test, OpenBy, AliasOf, Entry, Needs, Rest}
@@ -8,7 +8,8 @@ use Rattle.cyc_meaning.specs.State.{Loop, CloseRegion, CloseLexical, EndLoan, Ha
 
 -- ---- the numbers of locals in the text
 
--- Says that all locals that a statement declares have numbers from a given one on, above those of all locals in scope around the statement.
+-- Says that all locals that a statement declares have indices of at least `m`, which is above the indices of all locals in scope around the
+-- statement.
 abbrev mutual
   pub StatementRises : ℕ → Statement → Type 0
   StatementRises m (Block region items) = ItemsRise m items
@@ -32,7 +33,7 @@ abbrev mutual
   ClausesRise m (Case tag None region items clauses) = ItemsRise m items × ClausesRise m clauses
   ClausesRise m (Case tag (Some number) region items clauses) = (m ≤ number) × ItemsRise (suc number) items × ClausesRise m clauses
 
--- Says that the numbers of locals increase along the text of every function; the parameters have the lowest numbers.
+-- Says that the indices that identify locals increase along the text of every function; the parameters have the lowest indices.
 abbrev pub FunctionsRise : Program → Type 0
 FunctionsRise program = (number : ℕ) (h : Function) → slice_get program.functions number ≡ Some h → ItemsRise (length h.parameters) h.body
 
@@ -94,7 +95,7 @@ IsInBlock (CloseLexical region ∷ stack) = IsInBlock stack
 IsInBlock (EndLoan lent ∷ stack) = IsInBlock stack
 IsInBlock (entry ∷ stack) = ⊥
 
--- Says that the newest call's locals that are in its open blocks have numbers below m.
+-- Says that every local of the newest call that is declared in a block still open has an identifying index below `m`.
 abbrev pub AreLow : ℕ → List Entry → Locals → List Object → Type 0
 AreLow m stack locals objects = (number object : ℕ) → locals number ≡ Some object → (region : ℕ) × LivesIn objects object region × (IsOfCall region stack → number < m)
 
@@ -109,7 +110,8 @@ ItemsDeclare items stack locals objects = (m : ℕ) × ItemsRise m items × AreL
 abbrev pub ClausesDeclare : Clauses → List Entry → Locals → List Object → Type 0
 ClausesDeclare clauses stack locals objects = (m : ℕ) × ClausesRise m clauses × AreLow m stack locals objects
 
--- The condition under which the local with a given number may be declared, if the rest of its block follows.
+-- The condition under which a block may declare its next local with the given index. All locals declared
+-- later in the block have greater indices, and the newest call's locals in open blocks have smaller ones.
 abbrev pub Names : (number : ℕ) → Items → List Entry → Locals → List Object → Type 0
 Names number items stack locals objects = ItemsRise (suc number) items × AreLow number stack locals objects × IsInBlock stack
 

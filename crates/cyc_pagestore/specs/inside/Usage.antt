@@ -1,4 +1,4 @@
--- The numbers of pages in use, and their relation to the blocks of a store.
+-- The counts of the pages in use, in all and for each region, and their relation to the blocks of a page store.
 use Rattle.std.specs.Prelude.{◌≡◌, ℕ, List, Some, length, slice_index}
 use Rattle.cyc_words.specs.Demand.{region_pages}
 use Rattle.cyc_store.specs.State.{lookup, Home, handle_of, sizes_of, demand}

@@ -85,14 +85,14 @@ module _ (room : ℕ) where
   abbrev pub global_value : Parser (Option GlobalValue)
   global_value = if_sees signs.Assign (sign here signs.Assign >> value room >>= (λ v. pure (Some v))) (pure None)
 
-  -- parses the rest of a global variable, after its type and its name
+  -- parses what follows the type and the name in the declaration of a global variable
   abbrev pub global : WrittenType → Named → Parser Declaration
   global t x = global_value >>= (λ v. sign here signs.Semicolon >> pure (Global t x v))
 
   abbrev pub function : Option WrittenType → Named → Parser Declaration
   function t f = sign here signs.LeftParen >> parameters room >>= (λ ps. sign room signs.RightParen >> body room (nested_statements room) >>= (λ b. pure (Function t f ps b)))
 
-  -- Parses the rest of a declaration, after its first type.
+  -- Parses what follows the type at the start of the declaration of a global variable or function.
   abbrev pub typed : WrittenType → Parser Declaration
   typed t = identifier here >>= (λ x. if_sees signs.LeftParen (function (Some t) x) (global t x))
 

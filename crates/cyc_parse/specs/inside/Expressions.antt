@@ -222,7 +222,8 @@ module _ (room : ℕ) (inner : Nested) where
   unfoldable pub initial : Parser Initial
   initial = choose initial_by
 
--- The parsers that have the given number of nesting levels left; if none is left, each rejects its first symbol as too deep.
+-- The parsers of expressions that may nest the given number of levels deeper; if this number is 0, each parser rejects its
+-- first symbol as nested too deep.
 unfoldable pub nested : ℕ → Nested
 nested zero = record {
   unary = refuse_item begins_expression TooDeep;

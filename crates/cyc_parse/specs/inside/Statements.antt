@@ -154,7 +154,7 @@ module _ (room : ℕ) (inner : Nested) where
   abbrev pub swap : Expression → Parser Statement
   swap a = sign here signs.Swap >> (nested here).unary >>= (λ b. end_of_swap here b >> pure (Swap a b))
 
-  -- Parses the rest of a statement, after its first expression.
+  -- Parses what follows the first expression of a statement: the rest of a swap, or the semicolon of an expression statement.
   abbrev pub following : Expression → Parser Statement
   following e = λ ts. (if sees signs.Swap ts && is_unary e then swap e else sign here signs.Semicolon >> pure (Evaluate e)) ts
 
@@ -268,7 +268,8 @@ module _ (room : ℕ) (inner : Nested) where
   abbrev pub items : Parser Items
   items = λ ts. items_in (length ts) ts
 
--- The parsers of statements that have the given number of nesting levels left; if none is left, each rejects its first symbol as too deep.
+-- The parsers of statements that may nest the given number of levels deeper; if this number is 0, each parser rejects its first symbol as
+-- nested too deep.
 unfoldable pub nested_statements : ℕ → Nested
 nested_statements zero = record {
   statement = refuse_item begins_statement TooDeep;

@@ -56,7 +56,7 @@ numbered is_asked base address =
 abbrev pub global_at : Program → (address : ℕ) → Option ℕ
 global_at program address = numbered (λ (number : ℕ). nat_lt number (length program.globals)) GLOBALS_BASE address
 
--- Returns the index of a call's slot at this address, if there is one.
+-- Returns the index of a call's slot at this address, if there is a slot at this address whose address an instruction takes.
 abbrev pub slot_at : Program → Activation → (address : ℕ) → Option ℕ
 slot_at program a address = numbered (is_pinned (routine_at program a.function).code) a.base address
 
@@ -101,7 +101,7 @@ word_in program c address OfStore = word_at c.store address
 word_in program c address OfSlots =
     word_or (slot_at program c.active address) c.active.slots (word_waiting program c.frames address)
 
--- Returns the word at an address, or `None` if memory has no word there.
+-- Returns the word at an address, or `None` if memory has no word at that address.
 abbrev pub memory_at : Program → Configuration → (address : ℕ) → Option ℕ
 memory_at program c address = word_in program c address (range_of address)
 
@@ -119,6 +119,6 @@ with_word program c address word OfGlobals = with_global c (global_at program ad
 with_word program c address word OfStore = record c { store = saved c.store address word }
 with_word program c address word OfSlots = with_slot program c (slot_at program c.active address) address word
 
--- Returns the configuration after a word is written to an address, if memory has a word there.
+-- Returns the configuration after a word is written to an address, if memory has a word at that address.
 abbrev pub with_memory : Program → Configuration → (address word : ℕ) → Configuration
 with_memory program c address word = with_word program c address word (range_of address)

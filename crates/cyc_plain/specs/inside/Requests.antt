@@ -4,7 +4,7 @@ use Rattle.cyc_plain.specs.declared.instruction.Operand.{Operand}
 use Rattle.cyc_plain.specs.declared.instruction.Request.{Request}
 use Rattle.cyc_plain.specs.declared.instruction.Request.TheVariants as requests
 
--- Returns the first of a request's operands, of which there are at most two.
+-- Returns the first operand of a request to the store, if the request has an operand. A request has at most two operands.
 abbrev pub first_operand : Request → Option Operand
 first_operand (requests.OpenLexical destination) = None
 first_operand (requests.CloseTo mark) = Some mark

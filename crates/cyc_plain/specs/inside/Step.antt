@@ -86,7 +86,8 @@ abbrev pub saves : Program → Configuration → (address word : ℕ) → Option
 saves program c address word (Some old) = Running (advanced (with_memory program c address word))
 saves program c address word None = Stuck c.output c.input
 
--- Returns the state after a byte of the word at its address is loaded into a slot. If memory has no word there, the run gets stuck.
+-- Returns the state after the byte at an address is loaded into a slot; the byte is taken from the word that contains it. If memory
+-- has no word at the address, the run gets stuck.
 
 abbrev pub loads_byte : Configuration → (destination address : ℕ) → Option ℕ → State
 loads_byte c destination address (Some word) = gives c destination (byte_in word (address % 4))

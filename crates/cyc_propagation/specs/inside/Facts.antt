@@ -38,7 +38,7 @@ pub record Scene : Type 0 where
 abbrev pub scene_of : Program → Configuration → Scene
 scene_of program c = record { slots = c.active.slots; memory = memory_at program c }
 
--- Returns the word that a load reads, or `None` if memory has no word there.
+-- Returns the word that a load reads, or `None` if memory has no word at the load's address.
 abbrev pub found : Scene → (address : Operand) → (offset : ℕ) → Option ℕ
 found scene address offset = scene.memory (add_of (operand_word scene.slots address) offset)
 
@@ -134,7 +134,7 @@ is_unreached facts = is_never (slice_get facts 0)
 
 -- ---- globals
 
--- A global is also a word of memory, at a byte offset from the first global, if its index is below the maximum for globals.
+-- A global is also a word of memory, at a byte offset from the first global, if its index is below the maximal number of globals.
 abbrev pub first_global : Operand
 first_global = operands.Word GLOBALS_BASE
 

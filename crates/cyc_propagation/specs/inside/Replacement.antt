@@ -105,9 +105,9 @@ abbrev pub simplified_unary : Option ℕ → UnaryOperator → (destination : �
 simplified_unary (Some word) operator destination operand = instructions.Move destination (operands.Word word)
 simplified_unary None operator destination operand = instructions.Unary operator destination operand
 
--- Returns true if folding loses no knowledge of the result: the left operand is a constant, or the operator overwrites one of its own
--- operands. In all other cases the operator is kept, so that a value that a loop recomputes from the same slots is known at the loop's
--- header.
+-- Returns true if constant folding of an operator loses no knowledge of the result: the left operand is a constant, or the operator
+-- overwrites one of its own operands. In all other cases the operator is not folded, so that a value that a loop recomputes from the
+-- same slots is known at the loop's header.
 abbrev pub may_fold : (destination : ℕ) → (left right : Operand) → Bool
 may_fold destination left right = not (is_cheap left) || (is_slot left destination || is_slot right destination)
 
@@ -188,7 +188,7 @@ decision_in [] comparison left right = None
 decision_in (fact ∷ facts) comparison left right = or_verdict (decision fact comparison left right) (decision_in facts comparison left right)
 
 -- Returns the replacement of a branch that is never taken: a move from a slot to the same slot, which also has no effect and has
--- a smaller size.
+-- a smaller size. If the branch compares two constants, its replacement is another branch that is never taken.
 abbrev pub passed_by : (left right : Operand) → (target : ℕ) → Instruction
 passed_by (operands.Slot number) right target = instructions.Move number (operands.Slot number)
 passed_by (operands.Word word) (operands.Slot number) target = instructions.Move number (operands.Slot number)
@@ -273,7 +273,7 @@ simplified_instruction facts instruction = simplified_otherwise facts instructio
 -- ---- unreachable places
 
 -- Returns true if an instruction may be dropped when it is unreachable. An instruction that takes the address of slots is
--- kept, so that the set of these slots is unchanged.
+-- not dropped, so that the set of slots whose address is taken is unchanged.
 abbrev pub may_vanish : Instruction → Bool
 may_vanish (instructions.AddressOf destination slot count) = false
 may_vanish i = true

@@ -17,7 +17,8 @@ abbrev pub slots_in : Program → ℕ → ℕ
 slots_in program function = (routine_at program function).slots
 
 -- A number represents the stack space known to be available: 0 if nothing is known, otherwise one more than a callee's number of
--- slots. `HasRoom` says that the slots of one more call fit above the address `base` when `depth` of at most `calls` calls are active.
+-- slots. `HasRoom` says that the slots of one more call fit on the stack below the address `base` when `depth` of at most `calls`
+-- calls are active.
 abbrev pub HasRoom : (calls : ℕ) → (room base depth : ℕ) → Type 0
 HasRoom calls zero base depth = Unit {0}
 HasRoom calls (suc slots) base depth = (slots_base + 4 * slots ≤ base) × (depth < calls)

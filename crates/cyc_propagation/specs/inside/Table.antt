@@ -62,7 +62,7 @@ goes_on (instructions.Finish value) = false
 goes_on (instructions.Uncaught tag value) = false
 goes_on i = true
 
--- Returns the facts known at the next position, if no jump goes there.
+-- Returns the facts known at the next position, if no jump has the next position as its target.
 abbrev pub after_put : Program → List Bool → List Fact → Instruction → (index : ℕ) → List Fact
 after_put program pinned facts i index = if goes_on i then facts_after program pinned facts i index (index + 1) else never ∷ []
 
@@ -84,7 +84,7 @@ facts_at program pinned entry code (suc index) =
 
 -- ---- the check
 
--- Returns true if there is an additional fact, such as one that a branch establishes, and it equals the given fact.
+-- Returns true if an additional fact, such as one that a branch establishes, is given and equals the other given fact.
 abbrev pub is_more : Option Fact → Fact → Bool
 is_more (Some other) fact = is_same_fact other fact
 is_more None fact = false

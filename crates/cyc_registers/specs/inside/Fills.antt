@@ -16,8 +16,8 @@ use Rattle.cyc_registers.specs.inside.Liveness.{IsLiveAt}
 abbrev pub fills_at : List Bool → (target : ℕ) → Bool
 fills_at fills target = slice_index_or fills target false
 
--- Says that at each branch to a position that fills delay slots, the register written there holds no word needed when the branch
--- falls through. Code positions that are not marked may be able to fill delay slots too.
+-- Says that if the instruction at a branch target fills delay slots, the register that it writes holds no word needed when the
+-- branch falls through. Code positions that the list `fills` does not flag may be able to fill delay slots too.
 abbrev pub AreFillable : Program → Routine → List Home → (fills : List Bool) → Type 0
 AreFillable program r hs fills =
     (index target d a k : ℕ) (comparison : Comparison) (left right : Operand) (i : Instruction)

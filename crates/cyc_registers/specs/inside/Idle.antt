@@ -1,5 +1,5 @@
--- Instructions that need no machine code: control always continues after them, and each word that they write is never read or is already
--- in its register. Such instructions are called idle.
+-- Idle instructions need no machine code: control always continues after them, and each word that they write is never read or is already
+-- in its register.
 use Rattle.std.specs.Prelude.{◌≡◌, ℕ, suc, ◌<◌, ◌≤◌, ◌⊎◌, Bool, true, false, List, slice_index_or}
 use Rattle.cyc_plain.specs.declared.instruction.BinaryOperator.{BinaryOperator}
 use Rattle.cyc_plain.specs.declared.instruction.BinaryOperator.TheVariants as operators

@@ -1,5 +1,5 @@
 -- Interference: the conditions for correct homes (registers or memory) of a function's slots. Slots that are live simultaneously share no
--- register. A slot live across a call is in memory too, or in a callee-saved register.
+-- register. A slot that is live across a call is in a callee-saved register, or is in memory (perhaps in addition to a register).
 use Rattle.std.specs.Prelude.{◌≡◌, ℕ, suc, ◌+◌, ◌<◌, ◌≤◌, Bool, true, false, if◌then◌else◌, List, length, nat_le, sum_by, take, Option, Some, None, slice_index_or}
 use Rattle.cyc_plain.specs.declared.instruction.Instruction.{Instruction}
 use Rattle.cyc_plain.specs.declared.instruction.Instruction.TheVariants as instructions
@@ -79,8 +79,8 @@ pub record AreHomes (program : Program) (r : Routine) (saved : ℕ) (hs : List H
   -- At the function's entry only parameters are live, and two parameters share no register if at least one of them is live there.
   pub entry : (a k : ℕ) → HasRegister hs a k → IsLiveAt program r a 0 → a < r.parameters
   pub parameters : (a c k : ℕ) → HasRegister hs a k → HasRegister hs c k → c < r.parameters → IsLiveAt program r a 0 → a ≡ c
-  -- A slot live after a call that does not return it is also in memory or is in a callee-saved register. A slot live in an exception
-  -- handler is also in memory, since exceptions arrive from calls that have restored no register.
+  -- A slot that is live after a call, and that receives no result of the call, is also in memory or is in a callee-saved register. A
+  -- slot live in an exception handler is also in memory, since exceptions arrive from calls that have restored no register.
   pub following : (index function arguments count result a : ℕ) → At r index (instructions.Call function arguments count result)
       → writes program (instructions.Call function arguments count result) a ≡ false → IsLiveAt program r a (suc index) → outlives (home_of hs a) ≡ true
   pub clause : (index first handler a : ℕ) → At r index (instructions.Try first handler)

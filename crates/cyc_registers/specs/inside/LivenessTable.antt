@@ -37,7 +37,7 @@ call_mask uses (instructions.Call function arguments count result) index live =
     bit_and (mask_at live (index + 1)) (unwritten_mask uses)
 call_mask uses instruction index live = 0
 
--- Returns the slots that must also be in memory: those live in the exception handler that an instruction opens.
+-- Returns the bit mask of the slots that must also be in memory: those live in the exception handler that an instruction opens.
 abbrev pub clause_mask : Instruction → List ℕ → ℕ
 clause_mask (instructions.Try first handler) live = mask_at live handler
 clause_mask instruction live = 0

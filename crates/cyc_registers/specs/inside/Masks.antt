@@ -14,7 +14,7 @@ use Rattle.cyc_plain.specs.inside.Uses.{At}
 use Rattle.cyc_registers.specs.declared.uses.Uses.{Uses}
 use Rattle.cyc_registers.specs.inside.Bars.{is_crossing}
 
--- Returns the entry of a list of masks for a slot or a code position, or 0 if there is no entry.
+-- Returns the bit mask that a list of masks has for a slot or a code position, or 0 if the list has no mask for it.
 abbrev pub mask_at : List ℕ → (place : ℕ) → ℕ
 mask_at masks place = slice_index_or masks place 0
 
@@ -22,7 +22,8 @@ mask_at masks place = slice_index_or masks place 0
 abbrev pub HasBit : List ℕ → (slot j : ℕ) → Type 0
 HasBit masks slot j = bit_at (mask_at masks slot) j ≡ 1
 
--- Says that `masks` are masks of the candidates for registers with numbers below `next`, each mask the bit of one slot.
+-- Says that each bit in `masks` (a list with one bit mask for each slot) has a number below `next` and identifies one
+-- slot. The slots with a nonzero mask are the candidates for registers.
 pub record AreMasks (masks : List ℕ) (next : ℕ) : Type 0 where
   pub below : (slot j : ℕ) → HasBit masks slot j → j < next
   pub one : (a c j : ℕ) → HasBit masks a j → HasBit masks c j → a ≡ c

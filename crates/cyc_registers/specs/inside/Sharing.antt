@@ -42,7 +42,7 @@ abbrev pub AllSuit : (masks live holders : List ℕ) → (calls clauses barred p
 AllSuit masks live holders calls clauses barred parameters saved hs =
     (slot : ℕ) → slot < length hs → suits masks live holders calls clauses barred parameters saved slot (home_of hs slot) ≡ true
 
--- Returns the list of the sets of slots that share a register, extended by a further set if this set has more than one slot.
+-- Returns the list of the sets of slots that share a register, extended by the given set of slots if this set has more than one slot.
 abbrev pub with_group : (groups : List ℕ) → (slots : ℕ) → List ℕ
 with_group groups slots = if is_single slots then groups else groups ++ slots ∷ []
 
@@ -52,8 +52,8 @@ AreGroups holders count groups =
     (register : ℕ) → register < count
     → (is_single (mask_at holders register) ≡ true) ⊎ ((number : ℕ) × (slice_get groups number ≡ Some (mask_at holders register)))
 
--- Returns the slots live at an instruction; for a move of several words, also the destinations. No two of the returned slots
--- may share a register.
+-- Returns the slots that are live at an instruction. For a move of several words, the slots to which the words are moved are
+-- included. No two of the returned slots may share a register.
 abbrev pub standing_mask : Uses → Instruction → (index : ℕ) → List ℕ → ℕ
 standing_mask uses (instructions.MoveWords destination source count) index live = bit_or (mask_at live index) uses.writes
 standing_mask uses i index live = mask_at live index
@@ -75,8 +75,8 @@ abbrev pub AreApart : (groups : List ℕ) → (written following : ℕ) → Type
 AreApart groups written following =
     (number slots : ℕ) → slice_get groups number ≡ Some slots → is_apart written following slots ≡ true
 
--- Says that no two slots of a group (slots that share a register) interfere at an instruction: no two are live there, and none is
--- written while another is live after.
+-- Says that no two slots of a group (slots that share a register) interfere at an instruction: at most one of them is live there,
+-- and the instruction writes none of them while another slot of the group is live after the instruction.
 abbrev pub AreApartAt : Uses → (live groups : List ℕ) → Instruction → (index : ℕ) → Type 0
 AreApartAt uses live groups i index =
     AreAlone groups (standing_mask uses i index live) × AreApart groups uses.writes (after_mask i index live)

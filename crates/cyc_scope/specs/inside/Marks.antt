@@ -26,8 +26,8 @@ mark_of g = record {
   counters = g.counters;
 }
 
--- The scope without the names added since its mark (a record of the scope's size) was taken. The numbers of locals and
--- regions, and the region names, that were used for removed names are not used again.
+-- The scope without the names added since its mark (a record of the scope's size) was taken. The numbers of the
+-- removed locals and regions, and the removed region names, are not used for later declarations.
 abbrev pub left_to : Mark → Scope → Scope
 left_to m g = record g {
   names = drop (length g.names - m.names) g.names;

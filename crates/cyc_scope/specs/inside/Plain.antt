@@ -1,4 +1,5 @@
--- Plain function signatures, for which a call must satisfy the fewest requirements: such a call accepts every region of its arguments.
+-- Plain function signatures: a call of a function with a plain signature must satisfy the fewest requirements, since it may pass
+-- arguments with any regions.
 use Rattle.std.specs.Prelude.{◌≡◌, ◌≤◌, ℕ, suc, List, [], ◌∷◌, ◌++◌, option_map}
 use Rattle.cyc_types.specs.declared.region.Region.{Region}
 use Rattle.cyc_types.specs.declared.region.Region.TheVariants.{Heap, Unique, Variable}

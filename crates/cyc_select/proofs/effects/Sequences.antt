@@ -1,4 +1,5 @@
--- Lemmas for traversals of code: ascending line numbers, code that stands at a line, and consecutive ordinary instructions.
+-- Lemmas for traversals of code: ascending line numbers, the sequence of lines that the code contains from a line number
+-- on, and consecutive ordinary instructions.
 use Rattle.std.proofs.Common.{◌≡◌, ◌≢◌, ℕ, suc, ◌+◌, ◌<◌, ◌≤◌, ◌%◌, true, List, [], ◌∷◌, ◌++◌, length, Some, slice_get, refl, subst, arith}
 use Rattle.std.specs.Prelude.{Contains}
 use Rattle.std.specs.List.{AllByRecursion, range_with_len}
@@ -70,7 +71,8 @@ pub stands_back : (code : Labelled) (k : ℕ) (xs ys : List Line) → Stands cod
 stands_back code k [] ys stands = stands_to code k (k + 0) ys (omega arith) stands
 stands_back code k (x ∷ xs) ys (first, rest) = stands_to code (k + 1 + length xs) (k + suc (length xs)) ys (omega arith) (stands_back code (k + 1) xs ys rest)
 
--- If a sequence of lines stands at a line number, then each nonempty prefix of the sequence stands at this number too.
+-- If the code contains a sequence of lines from a line number on, then it also contains each nonempty prefix of this
+-- sequence from the same line number on.
 pub stands_until : (code : Labelled) (k : ℕ) (xs : List Line) (y : Line) (ys : List Line) → Stands code k (xs ++ y ∷ ys) → Stands code k (xs ++ y ∷ [])
 stands_until code k [] y ys (first, rest) = (first, tt)
 stands_until code k (x ∷ xs) y ys (first, rest) = (first, stands_until code (k + 1) xs y ys rest)

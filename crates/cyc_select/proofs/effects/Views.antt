@@ -1,4 +1,5 @@
--- The effect of an ordinary instruction on registers and memory, viewed as functions from register numbers and from addresses to words.
+-- The effect of an ordinary instruction on registers and memory. The registers are viewed as a function from register numbers to words,
+-- and the memory as a function from addresses to words.
 use Rattle.std.proofs.Common.{◌≡◌, ◌≢◌, ℕ, ◌+◌, ◌-◌, ◌%◌, ◌^◌, ◌<◌, ◌≤◌, false, List, [], length, refl, sym, ap, subst, ◌∙◌, arith, inl, inr}
 use Rattle.std.specs.Prelude.{◌==◌, if◌then◌else◌, slice_set, slice_index}
 use Rattle.std.proofs.lemmas.Bool.{cases_eq, cond-false}

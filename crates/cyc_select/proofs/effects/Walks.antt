@@ -68,7 +68,7 @@ module _ (code : Labelled) (formed : IsFormed code) (addresses : ℕ → ℕ) (g
   pub walk_few : {Late : State → Type 0} (m n lo hi : ℕ) (out : List ℕ) (Goal : State → Type 0) (t : State) → m ≤ n → Walk n lo hi out Late Goal t → Walk m lo hi out Late Goal t
   walk_few m n lo hi out Goal t fewer walk = record { places = walk.places; enough = omega (arith, walk.enough); rises = walk.rises; comes = walk.comes }
 
-  -- A walk (stretch of a run) that reaches a goal also reaches each weaker goal.
+  -- If a walk (stretch of a run) reaches a state with a property, it also reaches a state with each property that follows from this one.
   pub walk_to : {Late : State → Type 0} (n lo hi : ℕ) (out : List ℕ) (Goal Goal' : State → Type 0) (t : State) → ((u : State) → Goal u → Goal' u) → Walk n lo hi out Late Goal t → Walk n lo hi out Late Goal' t
   walk_to {Late} n lo hi out Goal Goal' t goals walk = record {
     places = walk.places;

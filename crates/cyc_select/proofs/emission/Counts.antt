@@ -1,5 +1,5 @@
 -- The numbers of lines emitted for operands, plans (how MIPS performs an operation) and tests equal
--- the numbers counted for them, and are small.
+-- the numbers counted for them, and have small upper bounds.
 use Rattle.std.proofs.Common.{◌≡◌, ℕ, zero, suc, ◌+◌, ◌-◌, ◌*◌, ◌%◌, ◌^◌, ◌<◌, ◌≤◌, Bool, true, false, List, [], ◌∷◌, length, Option, None, Some, refl, sym, ap, ◌∙◌, arith, length-append}
 use Rattle.std.specs.Prelude.{◌==◌, nat_lt, if◌then◌else◌}
 use Rattle.std.proofs.lemmas.Bool.{false≢true}
@@ -202,8 +202,8 @@ pub argument_small : (o : Option Operand) → argument_count o ≤ operand_size 
 argument_small None = omega arith
 argument_small (Some operand) = omega (arith, load_small operand)
 
--- The lines that load a store request's first operand and update the number of open regions do not exceed the size reserved for such a
--- request.
+-- The lines that load the first operand of a request to the store and update the number of open regions are not more than the lines
+-- reserved for the request.
 pub regions_small : (request : Request) → argument_count (first_operand request) + regions_count request ≤ operand_size (first_operand request) + answer_count request
 regions_small (requests.OpenLexical destination) = omega arith
 regions_small (requests.CloseTo mark) = omega (arith, load_small mark)

@@ -19,7 +19,7 @@ ordinary_append : (is js : List Instr) → ordinary (is ++ js) ≡ ordinary is +
 ordinary_append [] js = refl
 ordinary_append (i ∷ is) js = ap (λ (l : List Line). lines.Ordinary i ∷ l) (ordinary_append is js)
 
--- The loop invariant of a move of several words is kept when the lines of one more word are emitted.
+-- The loop invariant of a move of several words still holds after the lines that move the next word are emitted.
 pub moved_next : (frame : Frame) (destination source count word : ℕ) (all old new : List Line) → word < count
     → new ≡ old ++ ordinary (move_to (value_register frame (destination + word)) frame (destination + word) (operands.Slot (source + word)))
     → old ++ ordinary (moves frame (destination + word) (source + word) (count - word)) ≡ all
@@ -37,7 +37,7 @@ moved_next frame destination source count word all old new below is before =
     ∙ ap (λ (n : ℕ). ordinary one ++ ordinary (moves frame (destination + (word + 1)) n (count - (word + 1)))) from)
     before
 
--- The loop invariant of passing arguments is kept when the lines of one more argument are emitted.
+-- The loop invariant of passing arguments still holds after the lines that pass the next argument are emitted.
 pub copied : (caller callee : Frame) (source slot count : ℕ) (all old new : List Line) → slot < count
     → new ≡ old ++ ordinary (pass caller callee (source + slot) slot)
     → old ++ ordinary (copies caller callee (source + slot) slot (count - slot)) ≡ all
@@ -55,7 +55,7 @@ copied caller callee source slot count all old new below is before =
     ∙ ap (λ (n : ℕ). ordinary one ++ ordinary (copies caller callee (source + (slot + 1)) n (count - (slot + 1)))) to)
     before
 
--- The loop invariant of spilling slots is kept when the lines of one more slot are emitted.
+-- The loop invariant of spilling slots still holds after the lines that spill the next slot are emitted.
 pub spilled_next : (caller callee : Frame) (source count slot : ℕ) (all old new : List Line) → slot < count
     → new ≡ old ++ ordinary (spill caller callee (source + slot) slot)
     → old ++ ordinary (spills caller callee (source + slot) slot (count - slot)) ≡ all
@@ -73,7 +73,7 @@ spilled_next caller callee source count slot all old new below is before =
     ∙ ap (λ (n : ℕ). ordinary one ++ ordinary (spills caller callee (source + (slot + 1)) n (count - (slot + 1)))) to)
     before
 
--- The loop invariant of saving registers is kept when the store of one more register is emitted.
+-- The loop invariant of saving registers still holds after the store of the next register is emitted.
 pub saves_next : (frame : Frame) (number : ℕ) (all old new : List Line) → number < frame.saved
     → new ≡ old ++ ordinary (store (FIRST_PRESERVED + number) (4 * (frame.first_saved + number)) ∷ [])
     → old ++ ordinary (saves_from frame.first_saved number (frame.saved - number)) ≡ all
@@ -88,7 +88,7 @@ saves_next frame number all old new below is before =
     ∙ ap (λ (n : ℕ). ordinary one ++ ordinary (saves_from frame.first_saved n (frame.saved - (number + 1)))) to)
     before
 
--- The loop invariant of restoring registers is kept when the load of one more register is emitted.
+-- The loop invariant of restoring registers still holds after the load of the next register is emitted.
 pub restores_next : (frame : Frame) (number : ℕ) (all old new : List Line) → number < frame.saved
     → new ≡ old ++ ordinary (load (FIRST_PRESERVED + number) (4 * (frame.first_saved + number)) ∷ [])
     → old ++ ordinary (restores_from frame.first_saved number (frame.saved - number)) ≡ all
@@ -103,7 +103,7 @@ restores_next frame number all old new below is before =
     ∙ ap (λ (n : ℕ). ordinary one ++ ordinary (restores_from frame.first_saved n (frame.saved - (number + 1)))) to)
     before
 
--- The loop invariant of loading parameters is kept when the lines that load one more parameter into its register are emitted.
+-- The loop invariant of loading parameters still holds after the lines that load the next parameter into its register are emitted.
 pub arrived_next : (frame : Frame) (slot : ℕ) (all old new : List Line) → new ≡ old ++ ordinary (reload frame (home_of (arriving frame) slot) slot)
     → old ++ ordinary (reloads_from frame slot (drop slot (arriving frame))) ≡ all → new ++ ordinary (reloads_from frame (slot + 1) (drop (slot + 1) (arriving frame))) ≡ all
 arrived_next frame slot all old new is before =

@@ -178,8 +178,8 @@ arrived_at frame slot k both = elim (cases_lt slot frame.parameters) [
 
 -- ---- the lines that load parameters
 
--- `Arrived` says that after the loads of parameters, each live slot with a register has its word there, and that no other register is
--- written.
+-- `Arrived` says that after the loads of a function's parameters, each live slot with a register has its word in that register, and
+-- that no register without a slot has changed.
 pub record Arrived (globals stack : ℕ) (program : Program) (frames : List Frame) (function index : ℕ) (q : Words) (w : Contents) (slots : Words) : Type 0 where
   pub safe : AreSafe globals stack (arrivals (frame_at frames function)) q w
   pub memory : after_w (arrivals (frame_at frames function)) q w ≡ w

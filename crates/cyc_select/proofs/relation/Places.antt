@@ -289,7 +289,8 @@ module _ (program : Program) (well : IsWellFormed program) (frames : List Frame)
 
 module _ (program : Program) (well : IsWellFormed program) (frames : List Frame) (fit : AreFrames program frames) (addresses : ℕ → ℕ) (pages calls : ℕ) (few : calls ≤ 4096)
     (c : Configuration) (r : Words) (w : Contents) (base back : ℕ) (stage : Stage) (s : Standing program frames addresses pages calls c r w base back stage c.active.slots) (a word : ℕ) where
-  -- `IsFound` says that the word at an address of the plain program is in the machine's memory and can be written there.
+  -- `IsFound` says that the word at an address of the plain program is in the machine's memory. A new word that the
+  -- machine writes there matches the same write by the plain program.
   pub record IsFound : Type 0 where
     pub sort : Sort
     pub at : IsWordAt sort globals_length (words_per_call * calls) w a word

@@ -36,7 +36,8 @@ abbrev pub in_frame_at : Stage → Bool
 in_frame_at entering = false
 in_frame_at (under_way in_frame) = in_frame
 
--- Returns the number of registers that a call has saved at a stage: none if it was just entered, otherwise all that it saves.
+-- Returns how many callee-saved registers a call has saved at a stage: 0 if the call was just entered, otherwise all that its
+-- function saves.
 abbrev pub saved_at : Stage → Frame → ℕ
 saved_at entering frame = 0
 saved_at (under_way in_frame) frame = frame.saved
@@ -140,8 +141,9 @@ module _ (program : Program) (well : IsWellFormed program) (frames : List Frame)
 
     -- ---- changes that keep the relation
 
-    -- `Standing` is kept if registers change that hold neither the current or the lowest frame's address, nor the return address, nor an
-    -- unsaved callee-saved word.
+    -- `Standing` (registers and memory represent the calls) still holds if registers change that hold no value on which it relies. It
+    -- relies on the addresses of the current and the lowest frame, on the return address and on callee-saved words not yet saved. It
+    -- also relies on the newest exception handler, the number of open regions and the base address of globals.
     pub standing_registers : (r' : Words) → r' 0 ≡ r 0 → r' FRAME ≡ r FRAME → r' LOWEST ≡ r LOWEST → (in_frame_at stage ≡ false → r' RETURN_ADDRESS ≡ r RETURN_ADDRESS) → lasting r' ≡ lasting r
         → ((j : ℕ) → saved_at stage (frame_at frames c.active.function) ≤ j → j < 7 → preserved_of r' j ≡ preserved_of r j) → Standing program frames addresses pages calls c r' w base back stage slots
     standing_registers r' zero_same base_same lowest_same back_same lasts_same preserved_same = record {
@@ -165,7 +167,7 @@ module _ (program : Program) (well : IsWellFormed program) (frames : List Frame)
       middle = middle_lasts r' r lasts_same ∙ s.middle;
     }
 
-    -- `Standing` (registers and memory represent the calls) is kept if the active call moves to another position of its code.
+    -- `Standing` (registers and memory represent the calls) still holds after the active call moves to another position of its code.
     pub standing_at : (d : Configuration) → d.active.function ≡ c.active.function → d.active.base ≡ c.active.base → d.active.handlers ≡ c.active.handlers → d.frames ≡ c.frames → d.globals ≡ c.globals → d.store ≡ c.store → AllByRecursion IsWord d.input
         → Standing program frames addresses pages calls d r w base back stage slots
     standing_at d function_same place_same handlers_same frames_same globals_same store_same input = record {
@@ -197,8 +199,8 @@ module _ (program : Program) (well : IsWellFormed program) (frames : List Frame)
       middle = s.middle;
     }
 
-    -- `Standing` (registers and memory represent the calls) is kept if the active call's handlers change, and registers that this relation
-    -- does not mention.
+    -- `Standing` (registers and memory represent the calls) still holds after the active call's list of exception handlers changes, and
+    -- after registers change on which `Standing` states nothing.
     pub standing_handlers : (handlers : List states.Handler) (r' : Words) → r' 0 ≡ r 0 → r' FRAME ≡ r FRAME → r' LOWEST ≡ r LOWEST → r' RETURN_ADDRESS ≡ r RETURN_ADDRESS → r' REGIONS ≡ r REGIONS → r' GLOBALS ≡ r GLOBALS
         → ((j : ℕ) → saved_at stage (frame_at frames c.active.function) ≤ j → j < 7 → preserved_of r' j ≡ preserved_of r j)
         → IsNewest program frames addresses (r' HANDLERS) base c.active.function handlers c.frames
@@ -243,7 +245,8 @@ module _ (program : Program) (well : IsWellFormed program) (frames : List Frame)
     abbrev global_at : ℕ → ℕ
     global_at global = data_base + 4 * global
 
-    -- `Standing` (registers and memory represent the calls) is kept if a slot's word is written to its word of the frame.
+    -- `Standing` (registers and memory represent the calls) still holds after a new word for a slot is written to the
+    -- slot's word of the frame.
     pub standing_slot : (slot word : ℕ) → slot < (routine_at program c.active.function).slots
         → Standing program frames addresses pages calls c r (written w (base + slot_offset (frame_at frames c.active.function) slot) word) base back stage (put slots slot word)
     standing_slot slot word below = record {
@@ -279,7 +282,8 @@ module _ (program : Program) (well : IsWellFormed program) (frames : List Frame)
       middle = s.middle;
     }
 
-    -- `Standing` (registers and memory represent the calls) is kept if only slots change whose home is a register alone.
+    -- `Standing` (registers and memory represent the calls) still holds if each slot that changes has its word only in a
+    -- register, not in memory.
     pub standing_unkept_words : (slots' : Words) → ((slot : ℕ) → is_kept (frame_at frames c.active.function) slot ≡ true → slots' slot ≡ slots slot)
         → Standing program frames addresses pages calls c r w base back stage slots'
     standing_unkept_words slots' same = record {
@@ -303,7 +307,8 @@ module _ (program : Program) (well : IsWellFormed program) (frames : List Frame)
       middle = s.middle;
     }
 
-    -- `Standing` (registers and memory represent the calls) is kept if one slot changes whose home is a register alone.
+    -- `Standing` (registers and memory represent the calls) still holds if one slot changes whose word is only in a
+    -- register, not in memory.
     pub standing_unkept : (slot word : ℕ) → is_kept (frame_at frames c.active.function) slot ≡ false
         → Standing program frames addresses pages calls c r w base back stage (put slots slot word)
     standing_unkept slot word unkept = standing_unkept_words (put slots slot word) (λ other other_kept. elim (cases_eq other slot) [
@@ -348,8 +353,8 @@ module _ (program : Program) (well : IsWellFormed program) (frames : List Frame)
       middle = s.middle;
     }
 
-    -- `Standing` (registers and memory represent the calls) is kept if the store changes and the register with the number of open
-    -- lexical regions is updated.
+    -- `Standing` (registers and memory represent the calls) still holds after the region store changes and the register with the
+    -- number of open lexical regions is updated.
     pub standing_store : (store : StoreState) (r' : Words) → r' 0 ≡ r 0 → r' FRAME ≡ r FRAME → r' LOWEST ≡ r LOWEST → r' RETURN_ADDRESS ≡ r RETURN_ADDRESS → r' HANDLERS ≡ r HANDLERS
         → r' REGIONS ≡ lexical_count store.regions % 2 ^ 32 → r' GLOBALS ≡ r GLOBALS → IsLaid pages store
         → ((j : ℕ) → saved_at stage (frame_at frames c.active.function) ≤ j → j < 7 → preserved_of r' j ≡ preserved_of r j)
@@ -375,7 +380,7 @@ module _ (program : Program) (well : IsWellFormed program) (frames : List Frame)
       middle = middle_same ∙ s.middle;
     }
 
-    -- `Standing` (registers and memory represent the calls) is kept by a write to a word of a live block.
+    -- `Standing` (registers and memory represent the calls) still holds after a write to a word of a live block of the region store.
     pub standing_saved : (address word : ℕ) → IsWord word
         → Standing program frames addresses pages calls (record c { store = saved c.store address word }) r (saved_in w address word) base back stage slots
     standing_saved address word is_word = record {
@@ -399,7 +404,7 @@ module _ (program : Program) (well : IsWellFormed program) (frames : List Frame)
       middle = s.middle;
     }
 
-    -- `Standing` (registers and memory represent the calls) is kept by a write to a global.
+    -- `Standing` (registers and memory represent the calls) still holds after a write to a global.
     pub standing_global : (global word : ℕ) → global < length program.globals
         → Standing program frames addresses pages calls (record c { globals = put c.globals global word }) r (written w (data_base + 4 * global) word) base back stage slots
     standing_global global word below = record {

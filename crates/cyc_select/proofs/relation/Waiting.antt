@@ -41,8 +41,8 @@ after_line program frames function index callee arguments count result =
 abbrev pub preserved_of : Words → Words
 preserved_of r j = r (17 + j)
 
--- `Left` gives the callee-saved registers when a call returns: those that it saved are restored from its frame, and the others are as the
--- calls that it made left them.
+-- `Left` gives the words of the callee-saved registers when a call returns. The registers that the call saved are restored from its
+-- frame; each other register has the word that the calls made by this call left in it.
 abbrev pub Left : (first saved base : ℕ) (inner : Words) (w : Contents) → Words
 Left first saved base inner w j = if nat_lt j saved then w.words (base + 4 * (first + j)) else inner j
 

@@ -1,4 +1,5 @@
--- A MIPS line can be hoisted before a branch: it is a copy of the first line of the branch target and has the same effect there.
+-- A MIPS line can be hoisted before a branch: it is a copy of the first line of the branch target, and has the same effect
+-- before the branch as at the target.
 use Rattle.std.proofs.Common.{◌≡◌, ◌≢◌, ℕ, ◌+◌, ◌%◌, ◌^◌, ◌<◌, ◌≤◌, Bool, true, false, not, List, [], ◌∷◌, ◌++◌, Option, Some, None, slice_get, length, append_assoc, append-nil, refl, sym, ap, subst, ◌∙◌, arith, inl, inr}
 use Rattle.std.specs.Prelude.{◌⊎◌, ◌==◌, ◌&&◌, ◌||◌, nat_lt, nat_le, if◌then◌else◌}
 use Rattle.std.proofs.lemmas.Bool.{and_parts, or_cases, or_parts, eqb-true, eqb-false, ltb-true, leb-true, ne_eqb, false≢true, not-true}

@@ -98,7 +98,8 @@ module _ (program : Program) (well : IsWellFormed program) (frames : List Frame)
       → Passes
   passes_with i at_i free idle none = passes_to (c.active.next + 1) (omega arith) i at_i free (no_line c.active.next i at_i idle none)
 
-  -- If an instruction writes only a slot that is not live, the machine's state also matches the plain state after it.
+  -- If an instruction without machine code writes only a slot that is not live, then the machine's state, which does
+  -- not change, also matches the plain program's state after the instruction.
   passes_unused : (i : Instruction) → IsAt i → calls_nothing i ≡ true → is_idle (frame_at frames c.active.function) c.active.next i ≡ true → after_count program frames c.active.function i ≡ 0
       → (destination word : ℕ) → IsUnused program (routine_at program c.active.function) (frame_at frames c.active.function).homes c.active.next destination
       → ((slot : ℕ) → slot ≢ destination → writes program i slot ≡ false) → leads i c.active.next (c.active.next + 1) ≡ true
@@ -116,7 +117,8 @@ module _ (program : Program) (well : IsWellFormed program) (frames : List Frame)
             ∙ sym (put-other c.active.slots destination slot word other)
       ])
 
-  -- If a move of several words writes only slots that are not live, the machine's state also matches the plain state after it.
+  -- If a move of several words has no machine code and writes only slots that are not live, the machine's state stays
+  -- unchanged. It then also matches the plain program's state after the move.
   passes_unused_words : (destination source count : ℕ) → IsAt (plain.MoveWords destination source count) → is_idle (frame_at frames c.active.function) c.active.next (plain.MoveWords destination source count) ≡ true
       → ((slot : ℕ) → is_among destination count slot ≡ true → IsUnused program (routine_at program c.active.function) (frame_at frames c.active.function).homes c.active.next slot)
       → Passes
@@ -142,7 +144,8 @@ module _ (program : Program) (well : IsWellFormed program) (frames : List Frame)
       unmoved slot other =
           cond-false (is_among destination count slot) (c.active.slots (source + (slot - destination))) (c.active.slots slot) other
 
-  -- If an instruction changes no slot, the machine's state also matches the plain state after it.
+  -- If an instruction without machine code changes no slot, then the machine's state, which does not change, also matches the plain
+  -- program's state after the instruction.
   passes_same : (i : Instruction) → IsAt i → calls_nothing i ≡ true → is_idle (frame_at frames c.active.function) c.active.next i ≡ true → after_count program frames c.active.function i ≡ 0
       → ((slot : ℕ) → writes program i slot ≡ false) → leads i c.active.next (c.active.next + 1) ≡ true
       → performed program zeros c i ≡ states.Running (at c (c.active.next + 1))
@@ -173,8 +176,8 @@ module _ (program : Program) (well : IsWellFormed program) (frames : List Frame)
             (live_earlier program frames c.active.function right c.active.next (c.active.next + 1) slot (plain.Move destination (operands.Slot destination)) at_i (eqb_next c.active.next) (eqb_other destination slot other) wanted)
       ])
 
-  -- If a move copies a word to a slot whose register already holds this word, the machine's state also matches the plain state after the
-  -- move.
+  -- If a move copies a word to a slot whose register already holds this word, then the machine's state, which does not change, also
+  -- matches the plain program's state after the move.
   passes_there : (destination number register : ℕ) → IsAt (plain.Move destination (operands.Slot number)) → is_idle (frame_at frames c.active.function) c.active.next (plain.Move destination (operands.Slot number)) ≡ true
       → homing.home_of (frame_at frames c.active.function).homes destination ≡ homes.Register register → value_register (frame_at frames c.active.function) number ≡ Some register → Passes
   passes_there destination number register at_i idle home has =

@@ -210,8 +210,8 @@ module _ (program : Program) (well : IsWellFormed program) (frames : List Frame)
 
   -- ---- the operands of a request
 
-  -- `HasArgument` says that after the instructions, a register holds the word of an operand, if there is one, and other registers are
-  -- unchanged.
+  -- `HasArgument` says that after the given instructions a register holds the word of an operand, if an operand is given, and that
+  -- memory and all other registers are unchanged.
   record HasArgument (is : List Instr) (register : ℕ) (o : Option Operand) (q : Words) (m : Contents) : Type 0 where
     pub safe : AreSafe globals_length (words_per_call * calls) is q m
     pub memory : after_w is q m ≡ m

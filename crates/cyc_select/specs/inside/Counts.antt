@@ -21,7 +21,7 @@ use Rattle.cyc_select.specs.inside.Hoisting.{is_idle, hoisted, hoisted_count}
 abbrev pub ending_count : Program → (function : ℕ) → ℕ
 ending_count program function = if function == program.main then 4 else 0
 
--- Returns the number of MIPS lines that load an argument of a request to the store; 0 if the request has no such argument.
+-- Returns the number of MIPS lines that load an optional argument of a request to the store; 0 if the argument is absent.
 abbrev pub argument_count : Option Operand → ℕ
 argument_count None = 0
 argument_count (Some operand) = load_count operand

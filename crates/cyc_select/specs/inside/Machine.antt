@@ -97,7 +97,7 @@ PerformsOrdinary false c instruction new = new ≡ Stopped c.output c.input
 abbrev pub word_in : Configuration → ℕ → ℕ
 word_in c number = register (core_of c) number
 
--- Returns the configuration whose next line has the number `line` and that is otherwise unchanged.
+-- Returns a configuration that has `line` as the number of its next line and otherwise equals the given configuration.
 abbrev pub at : Configuration → ℕ → Configuration
 at c line = record c { line = line }
 
@@ -105,7 +105,8 @@ at c line = record c { line = line }
 abbrev pub linked : (ℕ → ℕ) → Configuration → Configuration
 linked addresses c = record c { registers = (with_register (core_of c) RETURN_ADDRESS (addresses (c.line + 1))).registers }
 
--- `Returns` says that a return goes to the line after a call whose address is in register 31, and stops the run if no such line exists.
+-- `Returns` says that a return goes to the line after a call whose address is in register 31, and stops the run if no line after a call
+-- has this address.
 abbrev pub Returns : Labelled → (ℕ → ℕ) → Configuration → State → Type 0
 Returns code addresses c new =
     ((line : ℕ) × IsReturnPoint code line × (addresses line ≡ word_in c RETURN_ADDRESS) × (new ≡ Running (at c line)))

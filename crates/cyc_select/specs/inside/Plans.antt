@@ -200,7 +200,8 @@ binary_plan operator left right =
 
 -- ---- tests of branches
 
--- Returns the branch on a word's sign that performs a comparison with 0, if there is one.
+-- Returns the MIPS branch on a word's sign that performs the given comparison of this word with 0,
+-- or `None` if MIPS performs this comparison by no branch on the sign.
 abbrev pub sign_of : Comparison → Option BranchZeroOp
 sign_of comparisons.Less = Some signs.Less
 sign_of comparisons.LessOrEqual = Some signs.LessOrEqual

@@ -62,8 +62,8 @@ abbrev pub quotient_code : Frame → MoveFromOp → (destination left right : �
 quotient_code frame which destination left right =
     multiply_divide_of Divide left right ∷ move_from_of which (made_in frame destination) ∷ keep_code frame destination
 
--- Returns the code of a division. For the divisor -1 the code multiplies instead, since the machine cannot divide the least number by -1.
--- The product's result is in the same register (HI or LO) as that of the division.
+-- Returns the code of a division. For the divisor -1 the code multiplies by -1 instead of dividing, since the machine cannot divide the
+-- least int by -1. The product is in the same register (HI or LO) in which the division leaves its result.
 abbrev pub divide_code : Frame → (here : ℕ) → MoveFromOp → (destination : ℕ) → (left right : Operand) → List Line
 divide_code frame here which destination left right =
     ordinary (divided_code frame left right)
@@ -158,7 +158,7 @@ store_at frame op address offset source =
     address_code frame address offset
     ++ (operand_code frame SECOND source ++ at_address frame op (operand_register frame SECOND source) address offset ∷ []))
 
--- Returns the code that loads an argument, if there is one, into a register.
+-- Returns the code that loads an optional argument of a request to the store into a register; the code is empty if the argument is absent.
 abbrev pub argument_code : Frame → (register : ℕ) → Option Operand → List Instr
 argument_code frame register None = []
 argument_code frame register (Some operand) = load_code frame register operand
@@ -200,7 +200,7 @@ uncaught_code frame tag value =
     ordinary (
     word_code ARGUMENT tag ++ (load_code frame SECOND_ARGUMENT value ++ small SERVICE END_UNCAUGHT ∷ syscall ∷ []))
 
--- Returns the code that ends the run if no further call is allowed.
+-- Returns the code that ends the run if the current frame is the lowest one allowed, so that no further call can be made.
 abbrev pub room_code : (here : ℕ) → List Line
 room_code here =
     lines.Branch (conditions.Registers branch.NotEqual (register_of FRAME) (register_of LOWEST)) (here + 3) ∷ []

@@ -62,8 +62,8 @@ abbrev pub hand_code : Frame → (source slot : ℕ) → List Instr
 hand_code frame source slot =
     if is_own (value_register frame slot) source then keep_code frame slot else give_code frame source slot
 
--- Returns the code that writes a register to a slot, as `give_code` does. If registers are reloaded afterwards (`again`), a slot whose
--- home is a register and memory is written in memory only.
+-- Returns the code that writes a register to a slot, as `give_code` does. If all registers are reloaded after this write (`again`), a
+-- slot whose home is both a register and memory is written in memory only.
 abbrev pub bring_code : (again : Bool) → Frame → (source slot : ℕ) → List Instr
 bring_code again frame source slot =
     if again && is_kept frame slot then store_slot frame source slot ∷ [] else give_code frame source slot
@@ -153,7 +153,7 @@ coming_home homes.Memory = homes.Memory
 coming_home (homes.Both register) = if homing.is_preserved register then homes.Memory else homes.Both register
 coming_home (homes.Register register) = if homing.is_preserved register then homes.Memory else homes.Register register
 
--- Returns the frame in which each parameter has the home (register or memory) in which callers pass it, instead of its own home.
+-- Returns the frame with each parameter's own home replaced by the home (register or memory) in which callers pass the parameter.
 abbrev pub coming : Frame → Frame
 coming frame = record frame { homes = map coming_home frame.homes }
 

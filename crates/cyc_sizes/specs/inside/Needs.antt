@@ -1,5 +1,5 @@
--- This file defines the frame words that single list elements need; `cyc_meaning` defines only those of whole lists. It also
--- defines the bound on the counted values.
+-- This file defines the frame words that each single element of a list needs; `cyc_meaning` defines only the frame words
+-- that whole lists need. The file also defines the upper bound on counts of frame words.
 use Rattle.std.specs.Prelude.{ℕ, ◌+◌, ◌^◌, max, option_map}
 use Rattle.cyc_types.specs.declared.typed.Operation.{Operation}
 use Rattle.cyc_types.specs.declared.typed.Operation.TheVariants as operation

@@ -37,7 +37,7 @@ waits_more : (o : Option ℕ) (p : Guard) (q : List ℕ) → Waits p q → Waits
 waits_more None p q h = h
 waits_more (Some m) p q h = λ n. peek_added (nat_eq m n) (p.peeked n) (has q n) (h n) ∙ sym (has_append q (m ∷ []) n)
 
--- If a flow state has at least the given facts, then every flow state that equals it has them too.
+-- If all facts of a set hold in a flow state, then they also hold in every flow state that equals it.
 moved_to : (f g : State) (h : Held) → f ≡ g → IsAtLeast (held_of f) h → IsAtLeast (held_of g) h
 moved_to f g h eq i = subst (λ x. IsAtLeast (held_of x) h) eq i
 

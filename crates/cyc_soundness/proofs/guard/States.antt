@@ -15,7 +15,7 @@ held_of (Reached as') = Holds (is_full as')
 
 -- ---- changing one local of a list
 
--- After the state of a local is changed, the local has the new state, or the list has no such local.
+-- After the state of a local is changed in a list of states, the list has the new state for this local, or has no element for this local.
 pub set_here : (as' : List Fullness) (n : ℕ) (a : Fullness) → (get_or (slice_set as' n a) n Vacant ≡ a) ⊎ (get_or (slice_set as' n a) n Vacant ≡ get_or as' n Vacant)
 set_here [] n a = inr refl
 set_here (b ∷ bs) zero a = inl refl
@@ -34,7 +34,7 @@ set_vacant (b ∷ bs) (suc n) = set_vacant bs n
 pub set_other : (as' : List Fullness) (n : ℕ) (a : Fullness) (m : ℕ) → (m ≡ n → ⊥) → get_or (slice_set as' n a) m Vacant ≡ get_or as' m Vacant
 set_other as' n a m h = get_or-set_other as' n m a Vacant h
 
--- After the state of a local is changed, every local is either the changed one or has its old state.
+-- After the state of one local is changed, every local either is the changed local and has the new state, or has its old state.
 pub set_at : (as' : List Fullness) (n : ℕ) (a : Fullness) (m : ℕ) → ((n ≡ m) × (get_or (slice_set as' n a) m Vacant ≡ a)) ⊎ (get_or (slice_set as' n a) m Vacant ≡ get_or as' m Vacant)
 set_at as' n a m = go (nat_eq n m) (reflects n m)
   where

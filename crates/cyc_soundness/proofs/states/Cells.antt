@@ -37,7 +37,7 @@ running p g x bs e w typed globals bound variables focus k live stands =
 
 -- ---- targets of pointers
 
--- If a lifetime outlasts a shared lifetime, then it is a shared lifetime too.
+-- If a lifetime outlasts a lifetime that is not that of a unique object, then the first lifetime is not that of a unique object either.
 pub outlasts_common : (l m : Life) → Outlasts l m → IsCommonLife m → IsCommonLife l
 outlasts_common l m (alike _) common = common
 outlasts_common l m (for_ever _) common = tt

@@ -42,7 +42,8 @@ pub given_other : (own : Thing → Holder) (o : Option Thing) (old new : Holder)
 given_other own None old new a has apart = refl
 given_other own (Some b) old new a has apart = by_test (same_thing a b) (own a) new (own a) (λ e. absurd (apart (ap own (the_same a b e) ∙ has))) (λ e. refl)
 
--- A resource that an operand, cell or loan owns after the transfer was also owned by one before it.
+-- If an operand, cell or loan owns a resource (key or unique pointer) after a transfer of ownership, then some operand, cell or loan owned
+-- this resource before the transfer.
 pub held_before : (own : Thing → Holder) (o : Option Thing) (old new : Holder) (a : Thing) → Owns own old o → IsHeld old → IsHeld (given o new own a) → IsHeld (own a)
 held_before own None old new a has held now = now
 held_before own (Some b) old new a has held now = go (same_thing a b) refl now
@@ -63,7 +64,8 @@ given_apart own now None q h k new has its apart is = tt
 given_apart own now (Some a) None h k new has its apart is = is
 given_apart own now (Some a) (Some b) h k new has its apart is = by_test (same_thing a b) (now a) new k (λ e. absurd (apart (sym has ∙ ap own (the_same a b e) ∙ its))) (λ e. is)
 
--- A resource that no operand, cell or loan owns has no owner after the transfer either.
+-- If no operand, cell or loan owns a resource (key or unique pointer) before a transfer of ownership, then none owns this resource after
+-- the transfer.
 pub nobody_before : (own : Thing → Holder) (o : Option Thing) (old new : Holder) (a : Thing) → Owns own old o → IsHeld old → own a ≡ Nobody → given o new own a ≡ Nobody
 nobody_before own None old new a has held none = none
 nobody_before own (Some b) old new a has held none = by_test (same_thing a b) (own a) new Nobody (λ e. absurd (subst (λ h. IsHeld h) (sym has ∙ ap own (sym (the_same a b e)) ∙ none) held)) (λ e. none)

@@ -92,7 +92,8 @@ lent_other empties x g k i object (Hand j) above less = lent_no_hand i object j
 lent_other empties x g k i object (At other offset) above less = lent_not_at i object other offset
 lent_other empties x g k i object (Lent j other) above less = λ e. (let same : i ≡ j = (lent_same i object j other e).0 in absurd (omega (arith, above, less, same)))
 
--- If a local differs from a local that a flow state requires to hold its value, then the variables of both locals differ too.
+-- If a local of any call differs from a given local of the current call, then the variables (objects in memory) of these two
+-- locals are different.
 slot_other : (g : Typing) (n object other : ℕ) → IsSlot g g.depth n object → (d m : ℕ) → IsSlot g d m other → (d ≡ g.depth → m ≡ n → ⊥) → At object 0 ≢ At other 0
 slot_other g n object other slot d m its apart e =
     let (depth, number) = slot_same g g.depth d n m other (subst (λ i. IsSlot g g.depth n i) (at_same object 0 other 0 e).0 slot) its in

@@ -94,7 +94,8 @@ pub among_level : {l : ℕ} {bs : List InScope} (e : Environment) → IsAmong (L
 among_level e (first cs) (is, are) = is
 among_level e (later c cs among) (is, are) = among_level e among are
 
--- The facts that hold about all locals of an inner scope also hold about the locals of an outer scope.
+-- A fact about all locals and loop counters of an inner scope, for example that the environment contains them, also holds about those of an
+-- enclosing scope.
 pub within_bound : (e : Environment) (cs bs : List InScope) → Within cs bs → IsBound e.locals e.counters bs → IsBound e.locals e.counters cs
 within_bound e cs bs (itself _) are = are
 within_bound e cs bs (older b _ ds inner within) (is, are) = within_bound e cs ds within are
@@ -310,7 +311,8 @@ around_heap n ns us e = ap around_of e
     around_of (OfRegion n ns us) = ns
     around_of l = []
 
--- If a lifetime outlasts an open lifetime, then it is open too.
+-- A lifetime is open if all resources lent at its beginning are still lent. If a lifetime outlasts
+-- an open lifetime that is not that of a unique object, then it is open.
 pub open_outlasting : (g : Typing) (l m : Life) → Outlasts l m → IsCommonLife m → IsOpenIn g m → IsOpenIn g l
 open_outlasting g l m (alike _) common opens = opens
 open_outlasting g l m (for_ever _) common opens = λ r e. absurd (let k : false ≡ true = e in cc)

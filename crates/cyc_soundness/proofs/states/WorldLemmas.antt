@@ -193,7 +193,7 @@ typed_beside g regions others objects typed heap kept more = record {
   lent = typed.lent;
 }
 
--- An open dynamic region is also found after the list of regions has grown.
+-- If an open dynamic region is in a list of regions, it is still there as an open dynamic region after the list has grown.
 dynamic_there : (o p : Option Region) → ((r : Region) → o ≡ Some r → p ≡ Some r) → IsDynamic o → IsDynamic p
 dynamic_there None p same is = absurd is
 dynamic_there (Some r) p same is = subst (λ z. IsDynamic z) (sym (same r refl)) is

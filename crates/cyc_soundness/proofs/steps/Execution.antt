@@ -306,7 +306,7 @@ module _ (p : Program) (g : Typing) (x : Exits) (bs : List InScope) (e : Environ
 
   -- ---- items
 
-  -- The rest of a block, which is executed after a declaration or statement that lends a local.
+  -- The remaining declarations and statements of a block, after one that lends a local, satisfy the typing and flow judgement `Continues`.
   lent_rest : (lent : ℕ) (js : Items) (c : Context) (f before following' ending : flow.State) → lent < c.next_local → IsLockedIn lent f → AreScoped c.locals c.next_local → WellTypedItems c js
       → Derives (rule_items (around (lending x lent)) js (record { now = f; breaks = before })) (record { now = ending; breaks = following' }) → AreBreaks x.loop following' → InItems x.relied c.next_region js
       → Continues (lending x lent) c js f (with_each Full (locks_of js) ending)

@@ -101,7 +101,7 @@ alias_read bs n l k t known =
     (all_in_weaker (IsKnown n) (λ r. lives_in bs r ≡ lives_in inner r) (λ r is. other_life n l true bs r (known_other n r is)) t known)) in
     ap (λ z. lives.Pointer k z (life_named inner n)) same ∙ ap (λ m. lives.Pointer k (read bs t) m) (same_name n l (life_named bs n))
 
--- Says that a resource (key or unique pointer), if there is one, is recorded as lent in this typing of the heap state.
+-- Says that a resource (key or unique pointer), if one is given, is recorded as lent in this typing of the heap state.
 abbrev IsLentNow : Typing → Option Thing → Type 0
 IsLentNow g None = Unit {0}
 IsLentNow g (Some a) = lent_now g a ≡ true

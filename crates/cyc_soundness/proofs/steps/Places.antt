@@ -239,7 +239,8 @@ module _ (g : Typing) (w : World) (typed : IsTyped g w.regions w.objects) where
   no_pointer (lives.Pointer k t l) target v plain has = absurd plain
   no_pointer t target v plain has = absurd has
 
-  -- A pointer points to an object of the target type that the typed tree states, also if the pointer is the source of a conversion.
+  -- A pointer value points to an object of the target type that the typed tree states, even if this value is then converted to
+  -- another type.
   pub converted_leads : (l : Lives) (c : Context) (s : ValueType) (t : Ty) (v : Operand) → Converts c s t → IsResult g (value_at l s) v → leads_to w (target_of_value s) (followed v.value) ≡ true
   converted_leads l c (types.Value types.Int) t v conv is = no_pointer lives.Int None v.value tt is.1
   converted_leads l c (types.Value types.Char) t v conv is = no_pointer lives.Char None v.value tt is.1

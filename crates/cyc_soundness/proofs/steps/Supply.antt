@@ -174,7 +174,8 @@ module _ (p : Program) (g : Typing) (x : Exits) (bs : List InScope) (e : Environ
   on : (focus : Focus) (k : List Entry) → LiveIn k bs → IsFocus p g x bs focus k → IsWell p (Running focus k e w)
   on focus k live stands = running p g x bs e w typed globals bound variables focus k live stands
 
-  -- The step that declares a local with a value and continues with the rest of its block.
+  -- The step that declares a local with a value leads to a state that satisfies the soundness invariant and continues with the remaining
+  -- declarations and statements of the local's block.
   pub declares_full : (number : ℕ) (kind : Kind) (v : values.Value) (is_place : Bool) (t : Ty) (js : Items) (cs : List InScope) (c : Context) (f h : flow.State) (k : List Entry) → IsNested k e w → LiveIn k bs
       → Within cs bs → IsContext p x bs c → Holds g f bs → IsNew c t → number ≡ c.next_local → kind ≡ kind_at (read bs t) → HasType g (read bs t) v → ClaimsBy g (operands_in k) (Value (read bs t)) v
       → Continues x (with_local is_place t c) js (with_fullness Full f number) h → IsStack p g x cs (Go h) k → IsWell p (declared (region_at w e.home) Proceeding number kind (Some v) (Rest js ∷ k) e w)

@@ -62,7 +62,7 @@ module _ (p : Program) (g : Typing) (e : Environment) (w : World) (typed : IsTyp
         subst (λ a. IsWell p (closing_lexical a focus region k e w)) (sym found)
         (running p g x bs e (closed w region r) (closed_typed g w.regions region (record r { is_open = false }) w.objects (lexical_not_heap region k e w nests) nests.0.0 typed) globals bound variables focus k live stands)
 
-    -- The condition of a loop is evaluated again.
+    -- The state in which the condition of a loop is evaluated again satisfies the invariant of the soundness proof.
     tests_again : (condition : Expression) (body : Statement) (k : List Entry) (y : Exits) (l : LoopExit) (v : ValueType) (u h : flow.State) → LiveIn k bs → IsLoop p y bs l condition body v u h → Holds g l.head bs → IsStack p g y bs (Go h) k
         → IsWell p (Running (Evaluating condition) (Needs (Test condition body) ∷ k) e w)
     tests_again condition body k y l v u h live loop holds stack =
@@ -84,7 +84,7 @@ module _ (p : Program) (g : Typing) (e : Environment) (w : World) (typed : IsTyp
       scope : AreVariables (ended_typing j what object) bs
       stack : IsStack p (ended_typing j what object) y bs (Go h) k
 
-    -- The resource that the lending variable's value represents, if there is any, is the lent resource.
+    -- If the value of a lent local represents a resource (key or unique pointer), then the loan of this local owns exactly this resource.
     lent_content : (lent j : ℕ) (t : RunTy) (object : ℕ) → IsLentOut g lent j t object
         → (o : Option Thing) × Owns g.own (Lent j object) o × ((own : Thing → Holder) → Owns own (At object 0) o → (x : Object) → slice_get w.objects object ≡ Some x → (c : Cell) (v : values.Value) → slice_get x.cells 0 ≡ Some c → c.content ≡ Some v → Claims own (At object 0) t v)
     lent_content lent j t object (l, there, away) =

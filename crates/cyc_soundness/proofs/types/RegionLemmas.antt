@@ -224,7 +224,7 @@ also_opened kind number c these live older alive names = record { there = there;
     agrees a b (inr (inr (inl (outlived, new, plain, has)))) = absurd (let z : true ≡ false = sym outlived ∙ older in cc)
     agrees a b (inr (inr (inr old))) = names.agrees a b (inr (inr old))
 
--- Giving a region variable again the lifetime that it has does not change its lifetime.
+-- If a region variable gets, a second time, the lifetime that it already has in a scope, then the lifetime of every region stays unchanged.
 pub again_life : (number : ℕ) (bs : List InScope) (r : Region) → lives_in bs r ≡ lives_in (Names number (life_named bs number) true ∷ bs) r
 again_life number bs regions.Heap = refl
 again_life number bs regions.Unique = refl

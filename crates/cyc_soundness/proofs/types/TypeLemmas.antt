@@ -1,5 +1,5 @@
--- This file is about types with the regions of trees and types with run-time lifetimes. The file also
--- treats representation kinds (int, char, pointer, ..) of types, and conversions.
+-- This file is about types whose regions are those of typed trees, and types whose regions are lifetimes of a run. The file also treats
+-- representation kinds (int, char, pointer, ..) of types, and conversions.
 use Rattle.std.proofs.Common.{◌≡◌, ◌⊎◌, inl, inr, true, List, [], ◌∷◌, map, Option, Some, None, refl, sym, ap, subst, ◌∙◌}
 use Rattle.std.specs.Prelude.{option_map}
 use Rattle.cyc_syntax.specs.declared.tree.PointerKind.{PointerKind}

@@ -48,7 +48,8 @@ lasts_itself object (OfRegion number ns us) = alike (OfRegion number ns us)
 lasts_itself object Owned = borrows object
 lasts_itself object (Kept a) = alike (Kept a)
 
--- If the outlives pairs of a region context hold between lifetimes, then all pairs that follow from these pairs hold too.
+-- If each outlives pair that a region context states also holds between the lifetimes of its two regions, then so does
+-- each outlives pair that follows from the stated pairs.
 pub given_agree : (c : RegionContext) (n : Lives) → ((a b : Region) → IsGiven c a b → Outlasts (n a) (n b)) → AgreesWith c n
 given_agree c n agree a b (itself _) = alike (n a)
 given_agree c n agree a b (given _ _ is) = agree a b is

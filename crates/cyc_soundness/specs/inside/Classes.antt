@@ -87,9 +87,10 @@ Asked true A = A
 
 -- ---- the class
 
--- All forms of the language are in the class of programs that the proof covers. Enclosing catch clauses do not require a value of a
--- local that is consumed, lent, or assigned a value with a single owner. At the start of a function there are no such clauses, and for
--- the body of a `try` the condition is proved. For unreachable code, the condition requires nothing.
+-- All forms of the language are in the class of programs that the proof covers, with one condition. The condition says that if a local
+-- is consumed, lent, or assigned a value with a single owner, no enclosing catch clause requires that this local holds a value. At the
+-- start of a function no catch clause encloses the code, and for the body of a `try` the condition is proved. For unreachable code,
+-- the condition requires nothing.
 abbrev mutual
   pub InExpression : Relied → Expression → Type 0
   InExpression q (Number n) = Unit {0}
@@ -153,8 +154,8 @@ abbrev pub InSide : Relied → Side → Type 0
 InSide q (VariableSide l t) = Unit {0}
 InSide q (CellSide d) = InPlace q d
 
--- Says that statements are in the class that the proof covers, if the next region has index n. The types of
--- locals in such statements mention only regions declared before them.
+-- Says that statements are in the class of programs that the soundness proof covers, where n is the number that the next region gets. The
+-- types of the locals that these statements declare contain only regions declared before those locals.
 abbrev mutual
   pub InStatement : Relied → ℕ → Statement → Type 0
   InStatement q n (Block r js) = InItems q (suc n) js

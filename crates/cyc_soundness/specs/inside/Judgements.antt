@@ -77,8 +77,8 @@ pub record Executes (x : Exits) (c : Context) (s : Statement) (f h : flow.State)
   pub breaks : AreBreaks x.loop following
   pub kept : InStatement x.relied c.next_region s
 
--- The typing and flow judgement of the rest of a block. At the end of the block, the locals that its declarations and
--- statements have locked hold values that are not lent.
+-- The typing and flow judgement of the remaining declarations and statements of a block. At the end of the block, the
+-- locals that these declarations and statements have lent hold values that are no longer lent.
 pub record Continues (x : Exits) (c : Context) (js : Items) (f h : flow.State) : Type 0 where
   pub before : flow.State
   pub following : flow.State

@@ -90,8 +90,8 @@ lives_of m regions.Heap = heap_life
 lives_of m regions.Unique = Owned
 lives_of m (regions.Variable n) = m n
 
--- The lifetimes with which a type without region variables, such as a global's type, becomes a run-time type: each
--- region variable denotes the heap.
+-- The map from regions to lifetimes that turns the type of a global into a run-time type. It maps each region
+-- variable to the heap's lifetime; a global's type contains no region variable.
 abbrev pub as_heap : Lives
 as_heap r = lives_of (λ n. heap_life) r
 

@@ -210,7 +210,7 @@ IsNewOwner l (Unique false) = ⊥
 IsNewOwner l (Unique true) = IsOwner l (Unique true)
 IsNewOwner l (InRegion number) = IsOwner l (InRegion number)
 
--- Says that a type is not the type of a dynamic region's key; cells to which pointers may point contain no such keys.
+-- Says that a type is not the type of a dynamic region's key; cells to which pointers may point contain no key of a dynamic region.
 abbrev pub IsKeyless : RunTy → Type 0
 IsKeyless (Key (Kept (KeyOf region))) = ⊥
 IsKeyless t = Unit {0}
@@ -252,7 +252,7 @@ thing_of (Pointer k t l) (values.Thin object offset) = pointer_at l object
 thing_of (Pointer k t l) (values.Fat object start count index) = pointer_at l object
 thing_of t v = None
 
--- Says that a resource (key or unique pointer), if there is one, is owned by this holder (an operand, cell or loan).
+-- Says that a resource (key or unique pointer), if one is given, is owned by this holder (an operand, cell or loan).
 abbrev pub Owns : (own : Thing → Holder) → Holder → Option Thing → Type 0
 Owns own h None = Unit {0}
 Owns own h (Some a) = own a ≡ h
@@ -304,7 +304,8 @@ IsHere g d n object = (g.here object ≡ Here) × IsSlot g d n object
 abbrev pub IsHiding : Typing → (object : ℕ) → (is_hidden : Bool) → Type 0
 IsHiding g object hidden = (x : ObjectType) × (slice_get g.objects object ≡ Some x) × (x.is_hidden ≡ hidden)
 
--- Says that a resource (key or unique pointer), if there is one, is owned by this local, to whose variable no pointer points.
+-- Says that a resource (key or unique pointer), if one is given, is owned by the local with this number, and that no pointer
+-- points to this local's variable.
 abbrev pub IsLookedAt : Typing → (number : ℕ) → Option Thing → Type 0
 IsLookedAt g n None = Unit {0}
 IsLookedAt g n (Some a) = (object : ℕ) × IsHere g g.depth n object × IsHiding g object true × (g.own a ≡ At object 0)
@@ -315,7 +316,7 @@ abbrev pub ClaimsPart : Typing → (hand : ℕ) → (peek : Option ℕ) → Opti
 ClaimsPart g i None o = Owns g.own (Hand i) o
 ClaimsPart g i (Some n) o = IsLookedAt g n o
 
--- Says that a resource (key or unique pointer), if there is one, is owned by some operand, cell or loan.
+-- Says that a resource (key or unique pointer), if one is given, is owned by some operand, cell or loan.
 abbrev pub IsHad : Typing → Option Thing → Type 0
 IsHad g None = Unit {0}
 IsHad g (Some a) = IsHeld (g.own a)
@@ -326,8 +327,8 @@ ClaimsBy g i (Seen object t) v = Owns g.own (At object 0) (thing_of t v)
 ClaimsBy g i (Into peek t) v = ClaimsPart g i peek (thing_of t v)
 ClaimsBy g i r v = Unit {0}
 
--- The resource (key or unique pointer) that a value represents when it leaves its call; such a value is never a peek
--- (a read that does not move).
+-- The resource (key or unique pointer) that a value represents when the value is passed out of the call that
+-- computed it. A value that is passed out of a call is never a peek (a read that does not move).
 abbrev pub ClaimsAlone : (own : Thing → Holder) → (hand : ℕ) → RunValue → values.Value → Type 0
 ClaimsAlone own i (Value t) v = Claims own (Hand i) t v
 ClaimsAlone own i (Seen object t) v = ⊥
@@ -354,8 +355,8 @@ IsDynamic (Some r) = (r.sort ≡ Dynamic) × (r.is_open ≡ true)
 abbrev pub IsUniqueObject : Typing → List Object → (object : ℕ) → Type 0
 IsUniqueObject g objects object = (t : ObjectType) × (x : Object) × (slice_get g.objects object ≡ Some t) × (t.life ≡ Owned) × (slice_get objects object ≡ Some x) × (x.owner ≡ Unique true)
 
--- Says that each object has its type, and that there are no other objects. The region of the heap is open. Dynamic regions whose key
--- has an owner are open, and unique objects whose pointer has an owner are live.
+-- Says that each object has the type that the typing records for it, and that no objects exist without a recorded type. The heap
+-- region is open. Dynamic regions whose key has an owner are open, and unique objects whose pointer has an owner are live.
 pub record IsTyped (g : Typing) (regions : List Region) (objects : List Object) : Type 0 where
   pub count : length objects ≡ length g.objects
   pub counts : length objects ≡ length g.filled

@@ -1,5 +1,5 @@
--- This file defines the requirements and declarations of a `let alias` whose region is already in scope. The requirements depend on the
--- presence of the name in its block, on the names of regions, and on the numbers of the local and the region.
+-- This file defines the requirements and declarations of a `let alias` whose region is already in scope. The requirements depend on
+-- whether the block already declares the local's name, on the names of regions, and on the indices of the local and the region.
 use Rattle.std.specs.Prelude.{ℕ, Bool, not, ◌&&◌, ◌||◌, List, [], ◌∷◌, false}
 use Rattle.cyc_words.specs.declared.fault.Code.TheVariants as codes
 use Rattle.cyc_syntax.specs.Symbols.{Place}

@@ -16,6 +16,6 @@ use Rattle.cyc_statements.specs.declared.items.Initialised.{Initialised}
 abbrev pub view_boxed_statement : Box Stmt Global → typed.Statement
 view_boxed_statement b = view.view_statement b.value
 
--- The view of the type of a local, and of its initial value, if there is one.
+-- The mathematical counterparts of a local's type and of its initial value, if the local has an initial value.
 abbrev pub view_initialised : Initialised → Ty × Option typed.Converted
 view_initialised i = (view_ty i.of_type, option_map (λ (b : Box Expr Global). converted (view_boxed b) (view_ty i.of_type)) i.value)

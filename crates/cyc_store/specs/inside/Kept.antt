@@ -17,8 +17,8 @@ use Rattle.cyc_store.specs.declared.range.TheConstants.{PAGE_WORDS, UNIQUE, MOST
 use Rattle.cyc_store.specs.Pages.{Pages, HasChain}
 use Rattle.cyc_store.specs.Slots.{place_of, Layout, IsLaidOut, slots_from}
 
--- The content of a page table as far as it can be read: the numbers of pages, the first free page,
--- and the rows, words and flags of live words as functions of their index.
+-- The values of a page table that can be read: the maximum and the current number of pages, the index of the first free page, and the rows,
+-- words and flags of live words as functions of their index.
 pub record Table : Type 0 where
   pub most : ℕ
   pub count : ℕ
@@ -36,7 +36,7 @@ abbrev pub IsOneOf : List ℕ → ℕ → Type 0
 IsOneOf [] p = ⊥
 IsOneOf (x ∷ xs) p = (p ≡ x) ⊎ IsOneOf xs p
 
--- `count` consecutive numbers from `first` on
+-- the list of `count` consecutive numbers that begins with `first`
 abbrev pub numbers_from : (first count : ℕ) → List ℕ
 numbers_from first zero = []
 numbers_from first (suc count) = first ∷ numbers_from (suc first) count

@@ -12,11 +12,12 @@ use Rattle.cyc_syntax.specs.Names.{is_among, number_of}
 abbrev pub key_of : List ℕ → ℕ
 key_of text = fold (λ key byte. (key * 257 % 2 ^ 64 + byte) % 2 ^ 64) 0 text
 
--- Returns the number stored for a key, if there is one.
+-- Returns the number that identifies the text with the given key in the map from keys, if the map has this key.
 abbrev pub first_in : BTreeMap ℕ ℕ → ℕ → Option ℕ
 first_in firsts key = get_by (nat_cmp key) firsts
 
--- Returns the number stored for a text among the texts whose key an earlier text has, if there is one.
+-- The map `others` has the texts whose key equals that of an earlier text. Returns the number that
+-- identifies a text, if the text is in this map.
 abbrev pub other_in : BTreeMap (Vec ℕ Global) ℕ → List ℕ → Option ℕ
 other_in others text = get_by (λ v. slice_cmp nat_cmp text v.items) others
 

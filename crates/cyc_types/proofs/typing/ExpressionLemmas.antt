@@ -455,8 +455,8 @@ module _ (p : typed.Program) (h : typed.Function) where
 
     -- ---- operators
 
-    -- says that an operand is well-typed; if the operator only tests or compares it, it may also be a unique
-    -- pointer that stays in its local
+    -- says that an operand is well-typed; an operand that the operator only tests or compares may be the
+    -- read of a unique pointer that stays in its local
     abbrev IsOperand : Bool → typed.Expression → Type 0
     IsOperand true a = IsSeen a (type_of a)
     IsOperand false a = IsWell a

@@ -441,7 +441,8 @@ module _ (g : Scope) (few : KnowsFew g) where
   condition_text : (e : Expression) → IsExpression assignment_level e → IsOfWordsWritten e → GivesText (rule_condition g e)
   condition_text e w words a (b, h, (k, eq)) = subst (Meets tree_demands) (sym eq) (served_text b (seen_text g e (rule g e) (λ c d. expression_text g few assignment_level e w words c d) b h))
 
--- declaring the local that receives a caught exception's int keeps the scope's bounds on field counts and exception numbers
+-- after the local that receives a caught exception's int is declared, the field counts and exception numbers known in the
+-- scope are still within their bounds
 caught_few : (v : Option Named) (g : Scope) → KnowsFew g → KnowsFew (with_caught v g)
 caught_few None g few = few
 caught_few (Some x) g few = few

@@ -1,7 +1,7 @@
--- The locals that a statement consumes, assigns or lends out, executed or not, with repetitions. Only unique pointers and keys matter: no
--- other local is consumed or lent out, and an assignment to any other local leaves it with a value. A local that is declared without a
--- value also counts as touched. Each function of this file takes a list of touched locals and adds to it. The definition of touched locals
--- is this project's own choice.
+-- The locals that a statement consumes, assigns or lends out, executed or not, with repetitions. Only unique pointers and keys are of
+-- interest: no other local is consumed or lent out, and an assignment to any other local leaves it with a value. A local that is declared
+-- without a value counts as touched. Each function of this file takes a list of touched locals and adds to it. The definition of touched
+-- locals is this project's own choice.
 use Rattle.std.specs.Prelude.{ℕ, List, [], ◌∷◌, ◌++◌, Option, Some, None}
 use Rattle.cyc_types.specs.Types.{ValueType, Void}
 use Rattle.cyc_types.specs.TypedTrees.{Lvalue, Local, Expression, Number, NullPointer, HeapRegion, Counter, Copy, Move, Peek, Load, AddressOf, AddressOfCell, NumberOfElements, FreeUnique, FreeKey, Call, Unary, Binary}

@@ -200,8 +200,8 @@ constraints_demanded names [] = []
 constraints_demanded names (c ∷ cs) =
     name_demanded names None c.longer ∷ no_unique_demanded names c.longer ∷ name_demanded names None c.shorter ∷ no_unique_demanded names c.shorter ∷ constraints_demanded names cs
 
--- Returns true if a function's name is new. A function's name also names the function's region, so the name must differ from the
--- built-in regions.
+-- Returns true if a function's name differs from the names of all functions and globals declared before it, and from the region
+-- names in scope. A function's name also names the function's region, so the name must differ from the built-in regions.
 abbrev pub is_function_new : Known → (before : List ℕ) → ℕ → Bool
 is_function_new k before x = not (is_among x before) && not (is_among x (region_numbers k.regions))
 

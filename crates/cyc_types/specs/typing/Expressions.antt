@@ -129,8 +129,8 @@ abbrev pub looked : Meaning → Place → Rule typed.Expression
 looked (scopes.Variable l t home) p = Own (demand codes.UniqueShared p (is_readable l t) ∷ []) (variable_looked l t)
 looked m p = read m p
 
--- The rule for an operand whose value is only tested, compared or dereferenced. If such an operand is a variable (parentheses do not
--- matter), a unique pointer in the variable stays there. For an operand that is not a variable, the typing rule is the argument `walked`.
+-- The rule for an operand whose value is only tested, compared or dereferenced. If such an operand is a variable (in parentheses or not), a
+-- unique pointer in the variable stays in the variable. For an operand that is not a variable, the typing rule is the argument `walked`.
 abbrev pub rule_looked : Scope → Expression → (walked : Rule typed.Expression) → Rule typed.Expression
 rule_looked g (Variable x) walked = looked (meaning_of g x) x.place
 rule_looked g (Bracketed p e) walked = rule_looked g e walked
@@ -444,7 +444,8 @@ abbrev pub first_places : List (Region × Region) → (count from : ℕ) → Lis
 first_places ps zero n = []
 first_places ps (suc k) n = first_place ps n ∷ first_places ps k (suc n)
 
--- the regions that instantiate the region variables of a signature at a call, by their numbers; no region variable has the number 0
+-- the regions that instantiate the region variables of a signature at a call, each at the index that identifies its region
+-- variable; no region variable has the index 0
 abbrev pub instance_of : Signature → List typed.Expression → List Region
 instance_of s as' = regions.Heap ∷ first_places (paired_arguments s.parameters as') s.variables 1
 
@@ -645,7 +646,7 @@ abbrev mutual
   rule_postfixed g p first (ThenIndex i ps) = Part first (λ a. Part (rule g i) (λ b. rule_further g p (indexed g p a (place_of i) (as_int b)) ps))
   rule_postfixed g p first (ThenField f ps) = Part first (λ a. rule_further g p (selected g p a f) ps)
 
-  -- the rule for the postfixes (`[i]` or `->f`) after a memory cell; if there is a further postfix, the cell is read first
+  -- the rule for the postfixes (`[i]` or `->f`) after a memory cell; before a further postfix is applied, the value of the cell is read
   pub rule_further : Scope → Place → Reached → Postfixes → Rule Reached
   rule_further g p w NoPostfixes = gives w
   rule_further g p w (ThenIndex i ps) = Part (loaded p w) (λ a. Part (rule g i) (λ b. rule_further g p (indexed g p a (place_of i) (as_int b)) ps))

@@ -27,7 +27,7 @@ abbrev pub regions_before : List (List ℕ) → List RegionName
 regions_before texts =
     record { name = number_of texts (bytes "H"); region = regions.Heap } ∷ record { name = number_of texts (bytes "U"); region = regions.Unique } ∷ []
 
--- the built-in exceptions, in the order of their numbers from 1; no built-in exception has an int
+-- the built-in exceptions, in the order of the numbers from 1 that identify them; no built-in exception carries an int
 abbrev pub exceptions_before : List (List ℕ) → List Exception
 exceptions_before texts =
     map (λ (x : List ℕ). record { name = number_of texts x; has_int = false })

@@ -1,6 +1,6 @@
--- The meaning of names at an expression or a statement, and the numbers of a function's locals and regions. Identifiers and region names
--- share one numbering. Four name spaces are separate: structs, exceptions, functions with globals, and regions. (Scopes of names are
--- C's; the numbers are this project's own choice.)
+-- The meaning of names at an expression or a statement, and the numbers that identify a function's locals and regions. Identifiers and
+-- region names share one numbering. Four name spaces are separate: structs, exceptions, functions with globals, and regions. (Scopes of
+-- names are C's; the numbers are this project's own choice.)
 use Rattle.std.specs.Prelude.{ℕ, suc, ◌+◌, Bool, true, false, nat_eq, ◌&&◌, ◌||◌, if◌then◌else◌, List, [], ◌∷◌, ◌++◌, Option, None, Some}
 use Rattle.std.specs.List.{list_any}
 use Rattle.cyc_syntax.specs.Symbols.{Place}
@@ -92,7 +92,7 @@ pub record Scope : Type 0 where
   pub regions : RegionContext
   -- the locals in scope, newest first
   pub locals : List LocalVariable
-  -- the numbers that the next declared local and the next declared region get
+  -- the numbers that will identify the next declared local and the next declared region
   pub next_local : ℕ
   pub next_region : ℕ
   -- the number of the region of the innermost enclosing block
@@ -237,8 +237,8 @@ abbrev mutual
 
 -- ---- scopes
 
--- the scope after a statement: its declarations are out of scope, and the numbers of its locals and regions and its region names are
--- not reused
+-- the scope after a statement: the statement's declarations are out of scope; the numbers that identify its locals and regions, and
+-- its region names, are not reused
 abbrev pub following : Scope → Statement → Scope
 following g s = record g { next_local = g.next_local + locals_in s; next_region = g.next_region + regions_in s; taken = names_in s ++ g.taken }
 

@@ -1,8 +1,9 @@
 -- The typing judgement on typed trees of the whole language: a tree is well-typed in its context, whether or not it comes from a source
--- text. The typing judgement also applies to the unevaluated rest of a chain, of arguments or of a block in the states of an execution. The
--- typing rules derive only well-typed trees. The typing judgement contains all facts that a proof about executions needs. The typing rules
--- ensure some of these facts without a requirement: declared numbers are fresh, and a variable's own region is live at its declaration.
--- (Typing, regions, effects and outlives are those of Grossman et al. 2002. The form of the judgement is this project's own choice.)
+-- text. In the states of an execution, the typing judgement also applies to the operators, arguments or declarations and statements of a
+-- block that are not yet evaluated. The typing rules derive only well-typed trees. The typing judgement contains all facts that a proof
+-- about executions needs. The typing rules ensure some facts of the typing judgement without a requirement: declared numbers are fresh, and
+-- a variable's own region is live at its declaration. (Typing, regions, effects and outlives are those of Grossman et al. 2002. The form of
+-- the judgement is this project's own choice.)
 use Rattle.std.specs.Prelude.{◌≡◌, ◌≢◌, ◌⊎◌, ℕ, suc, ◌+◌, ◌<◌, ◌≤◌, Bool, true, false, List, [], ◌∷◌, ◌++◌, Option, Some, None, Contains, length, map, slice_get}
 use Rattle.cyc_syntax.specs.declared.tree.PointerKind.{PointerKind}
 use Rattle.cyc_syntax.specs.declared.tree.PointerKind.TheVariants as marks
@@ -52,7 +53,7 @@ pub record Context : Type 0 where
   pub result : Option Ty
   -- the locals in scope, newest first
   pub locals : List LocalInScope
-  -- the numbers that the next declared local and the next declared region get
+  -- the numbers that will identify the next declared local and the next declared region
   pub next_local : ℕ
   pub next_region : ℕ
   -- the number of the region of the innermost enclosing block
@@ -242,7 +243,8 @@ IsCondition c a = (v : ValueType) × (WellTyped c a v ⊎ IsPeek c a v) × (is_t
 
 -- ---- the context of later trees
 
--- the context after a statement: the statement's declarations are out of scope, and the numbers of its locals and regions are not reused
+-- the context after a statement: the statement's declarations are out of scope, and the numbers that identify its locals and regions are
+-- not reused
 abbrev pub following : Context → Statement → Context
 following c s = record c { next_local = c.next_local + length (declared_types s); next_region = c.next_region + declared_regions s }
 
@@ -256,7 +258,8 @@ in_body c = record c { in_loop = true }
 abbrev pub with_local : Bool → Ty → Context → Context
 with_local b t c = record c { locals = record { number = c.next_local; of_type = t; region = c.region; is_place = b } ∷ c.locals; next_local = suc c.next_local }
 
--- the typing context after the next region has been declared; a second definition in this file also opens that region
+-- the typing context after the next region has been declared; the definition `with_opened` gives the context in which
+-- that region is open as well
 abbrev pub with_region : Context → Context
 with_region c = record c { next_region = suc c.next_region }
 

@@ -33,7 +33,7 @@ MayShow m start seen = (n : ℕ) × (s : m.State) × Run m n start s × (seen �
 -- `before` lists the positions visited before the first step; `own` maps each position of the upper machine to the positions of its step
 -- in the lower machine.
 pub record IsUnderWay (above below : Machine) (before : List below.Place) (own : above.Place → List below.Place) (start : above.State) (met : List below.Place) (now : below.State) : Type 0 where
-  -- The run of the upper machine, which is also still running.
+  -- The run of the upper machine up to now; the upper machine is still running, as the lower machine is.
   pub places : List above.Place
   pub state : above.State
   pub path : Path above places start state

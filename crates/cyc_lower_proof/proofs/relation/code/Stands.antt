@@ -51,7 +51,7 @@ abbrev pub GlobalAt : (code : List Instruction) → (words first : ℕ) → Oper
 GlobalAt code words first (operands.Slot n) p q = EachAt code store_word words first n p q
 GlobalAt code words first (operands.Word n) p q = At code p (instructions.StoreGlobal first (operands.Word n)) × (p + 1 ≡ q)
 
--- Says that the code moves a value to slot d, or that the value is already there.
+-- Says that the code moves a value to slot `d`, or that the value is in slot `d` already and no code is needed.
 module _ (code : List Instruction) where
   abbrev pub CopyBy : Bool → (words : ℕ) → Operand → (d p q : ℕ) → Type 0
   CopyBy true words o d p q = p ≡ q
@@ -83,7 +83,7 @@ module _ (code : List Instruction) where
   LastByteAt kinds.Char d p q = At code p (instructions.Binary plain_binary.Add d (operands.Slot d) (operands.Word 3)) × (p + 1 ≡ q)
   LastByteAt kind d p q = p ≡ q
 
-  -- Holds if the code at p jumps over the code after `else`, or if there is no such code.
+  -- Holds if the code at position `p` of an `if` statement jumps over the code of its `else` branch, or if the `else` branch has no code.
   abbrev pub OverAt : (p q : ℕ) → Type 0
   OverAt p q = (p ≡ q) ⊎ At code p (instructions.Jump q)
 
@@ -196,8 +196,8 @@ module _ (code : List Instruction) (bounds : Numbering) (types : Types) where
   ConversionBy false kinds.Char span o t p q = (o ≡ operands.Slot t) × (p ≡ q)
   ConversionBy false to span o t p q = ThinnedAt to span o t p q
 
-  -- Says that the code at p converts a value in place. If the conversion changes the words of the value, then the value is in slot t. A
-  -- char value is also in slot t.
+  -- Says that the code at position `p` converts a value in the slots where the value is. If the conversion changes the words of the
+  -- value, then the value is in slot `t`. A char that is converted is in slot `t` as well.
   abbrev pub ConversionAt : (from to : Kind) → (span : Option ℕ) → Operand → (t p q : ℕ) → Type 0
   ConversionAt from to span o t p q = ConversionBy (keeps_words from to) to span o t p q
 
@@ -400,7 +400,7 @@ module _ (code : List Instruction) (bounds : Numbering) where
         × OperandBy code bounds types (source_of (starts_of types) (Convert from to a)) (BroughtBy code bounds types (masks from to) (operand_of (starts_of types) a) (λ r. ExpressionAt types a (value_slot (starts_of types) a t) t p r) (value_slot (starts_of types) a t) (ExpressionAt types a (source_slot (starts_of types) (Convert from to a) t) t p m) (source_slot (starts_of types) (Convert from to a) t) p m) (source_slot (starts_of types) (Convert from to a) t) o p m
         × ConversionAt code bounds types from to (span_of a) o t m r × At code r (move_of (words_of_kind to) d o) × (r + 1 ≡ q))
 
-    -- Says that the code moves a value to slot t and converts it there.
+    -- Says that the code moves a value to slot `t` and converts the value in this slot.
     pub ConvertedAt : (types : Types) → Converted → (t p q : ℕ) → Type 0
     ConvertedAt types (Convert from to a) t p q = (m : ℕ) × BroughtBy code bounds types (masks from to) (operand_of (starts_of types) a) (λ r. ExpressionAt types a (value_slot (starts_of types) a t) t p r) (value_slot (starts_of types) a t) (ExpressionAt types a t t p m) t p m × ConversionAt code bounds types from to (span_of a) (operands.Slot t) t m q
 

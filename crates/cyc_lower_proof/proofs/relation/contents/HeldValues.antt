@@ -214,8 +214,8 @@ pub record IsLocalRow (t : Tables) (types : Types) (s : CallSlots) (number objec
   pub row : slice_get t.rows object ≡ Some (row_of s (slot_of (starts_of types) number) kind)
 
 -- The slots hold the locals of a call, which have these types, and whose objects have indices from `low` up to `high`. Each local has
--- enough slots and has its value there. If the local has an address, then its slots are the words of its object. A char with an address has
--- a word below 256 even without a value, because a byte store keeps the other bytes of the word.
+-- enough slots, and these slots hold its value. If the local has an address, then its slots are the words of its object. A char with an
+-- address has a word below 256 even before a value is stored, because a byte store does not change the word's other bytes.
 pub record LocalsHold (t : Tables) (types : Types) (s : CallSlots) (objects : List Object) (locals : ℕ → Option ℕ) (low high : ℕ) (slots : Words) : Type 0 where
   pub within : (number object : ℕ) → locals number ≡ Some object → (number < length types.locals) × (low ≤ object) × (object < high)
   pub apart : (number other object : ℕ) → locals number ≡ Some object → locals other ≡ Some object → number ≡ other

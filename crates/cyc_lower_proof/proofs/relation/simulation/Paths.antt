@@ -1,5 +1,5 @@
--- This file matches a step of the source by several instructions. Each instruction except the last reaches a given configuration further
--- on in the code, and nothing is printed before the last instruction.
+-- This file matches a step of the source by several instructions. Each instruction except the last reaches a given configuration at a
+-- later position of the code, and nothing is printed before the last instruction.
 use Rattle.std.proofs.Common.{◌≡◌, ◌≢◌, ℕ, suc, ◌<◌, true, List, [], ◌∷◌, ◌++◌, length, refl, sym, ap, subst, ◌∙◌, arith}
 use Rattle.std.specs.Prelude.{Contains, nat_le, ◌&&◌}
 use Rattle.std.specs.List.{AllByRecursion}
@@ -63,7 +63,7 @@ module _ (source : Program) (pages calls : ℕ) where
   path_places c [] = []
   path_places c (l ∷ links) = place_in source pages calls l.following ∷ path_places l.following links
 
-  -- Code positions further on in the code differ from the earlier positions.
+  -- If a code position comes before the current one, it differs from the current position and from all later positions on the path.
   later : (p : CodePlace) (c : Configuration) (links : List Link) → p.index < c.active.next → IsPath source c links
       → AllByRecursion (λ q. p ≢ q) (place_in source pages calls c ∷ path_places c links)
   later p c [] less path = (λ same. absurd (omega (arith, less, ap (λ (q : CodePlace). q.index) same)), tt)

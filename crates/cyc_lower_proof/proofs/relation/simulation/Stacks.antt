@@ -62,7 +62,7 @@ module _ (source : Program) where
   abbrev pub bounds_at : ℕ → Numbering
   bounds_at g = bounds_in (slice_get source.functions g)
 
-  -- The types of a function's locals, and further data that the code of the function needs: the structs, the position of the blocks that
+  -- The types of a function's locals, and other data that the code of the function needs: the structs, the position of the blocks that
   -- raise exceptions, and the first slots of the locals.
   abbrev pub local_types : Option Function → List Ty
   local_types None = []
@@ -81,8 +81,8 @@ module _ (source : Program) where
   abbrev pub starts_at : ℕ → Starts
   starts_at g = starts_of (types_at g)
 
-  -- The types of a function's locals and further data of its layout, with the slots of the loop counters for arrays that
-  -- these continuation frames are filling.
+  -- The types of a function's locals and the other data that determine the layout of its slots. The loop counters in
+  -- these data are those of the arrays that the given continuation frames are filling.
   abbrev pub types_on : ℕ → List Entry → Types
   types_on g k = record { locals = local_types (slice_get source.functions g); structs = source.structs; raises = raises_in (slice_get source.functions g); counters = counters_of (after_records k (scopes_of source) (words_of_all (local_types (slice_get source.functions g)))) k; globals = global_types source.globals; scopes = scopes_of source }
 
@@ -170,7 +170,8 @@ module _ (source : Program) where
     in_temporary : free ≤ d → temporary → Lands base free d words temporary ahead
     in_local : d + words ≤ base → ahead → Lands base free d words temporary ahead
 
-  -- Says that the value of an assignment is in a slot or constant, and is then dropped, kept there, or moved to another slot.
+  -- Says that the value of an assignment is in a slot or constant. The value of the assignment is then dropped, remains in
+  -- this slot or constant, or is moved to another slot.
   pub data HandsOn (code : List Instruction) (words : ℕ) (o : Operand) (p : ℕ) (dropped stays : Type 0) (comes : (d q : ℕ) → Type 0) : Type 0 where
     drops : dropped → HandsOn code words o p dropped stays comes
     leaves : stays → HandsOn code words o p dropped stays comes

@@ -1,4 +1,4 @@
--- Proves the law that regions and objects keep their numbers.
+-- Proves the law that regions and objects keep their indices during a run.
 use Rattle.cyc_meaning.specs.State.{Running}
 use Rattle.cyc_meaning.proofs.WorldLaws.{steps_stay, world_same}
 use Rattle.cyc_meaning.proofs.laws.numbers_stay.Goals as goal

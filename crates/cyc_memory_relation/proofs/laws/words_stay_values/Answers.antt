@@ -1,5 +1,5 @@
--- The words of a value still represent it when the tables of objects and regions grow, and equal words that begin at another index
--- represent it too.
+-- The words of a value still represent it when the tables of objects and regions grow. Equal words that begin at another index
+-- also represent the value.
 use Rattle.cyc_memory_relation.proofs.Values.{Is-grows, Is-same}
 use Rattle.cyc_memory_relation.proofs.laws.words_stay_values.Goals as goal
 

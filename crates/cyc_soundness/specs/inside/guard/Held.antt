@@ -24,7 +24,7 @@ abbrev pub with_held : Bool → Held → ℕ → Held
 with_held b Never n = Never
 with_held b (Holds f) n = Holds (updated f n b)
 
--- The state in which a local, if there is one, is marked as holding a value.
+-- Returns the flow state with the given local marked as holding a value; if no local is given, returns the flow state unchanged.
 abbrev pub and_held : Option ℕ → Held → Held
 and_held None f = f
 and_held (Some n) f = with_held true f n
@@ -36,7 +36,8 @@ pub record Guard : Type 0 where
   -- The locals that enclosing declarations and statements have lent to the end of their blocks: such locals are neither
   -- peeked at (read without being moved), used nor assigned.
   pub locked : ℕ → Bool
-  -- The locals that were read early (peeked at) and whose read values are not yet used: such locals may only be peeked at again.
+  -- The locals that were read early (peeked at) and whose read values are not yet used. Until then, the code may only read these
+  -- locals again without moving their values.
   pub peeked : ℕ → Bool
 
 abbrev pub nowhere : ℕ → Bool

@@ -1,4 +1,4 @@
--- A word is determined by its bits, and also by its two halves.
+-- A 32-bit word is determined by its bits. A 32-bit word is determined by its two 16-bit halves as well.
 use Rattle.cyc_words.proofs.WordLemmas.{same_bits, sign_bit, bit_or-halves, signed-sign_extended, sign_extended-low_half}
 use Rattle.cyc_words.proofs.laws.word_parts.Goals as goal
 
