@@ -35,6 +35,17 @@ def blocks_of(text, comment):
             block = []
 
 
+def sentences_of(block):
+    """Returns the sentences of a comment. A sign within back quotes ends none."""
+    found = []
+    for part in re.split(r"(?<=[.?!]) +(?=[A-Z`])", block):
+        if found and found[-1].count("`") % 2:
+            found[-1] += f" {part}"
+        else:
+            found.append(part)
+    return found
+
+
 def sentences():
     """Returns all sentences of comments, each with its file."""
     listed = subprocess.run(["git", "ls-files"], cwd=suite.ROOT, capture_output=True, text=True, check=True).stdout.split("\n")
@@ -44,7 +55,7 @@ def sentences():
             continue
         with open(f"{suite.ROOT}/{path}", encoding="utf-8", errors="replace") as file:
             for block in blocks_of(file.read(), comment):
-                yield from ((path, it) for it in re.split(r"(?<=[.?!]) +(?=[A-Z`])", block) if len(it.split()) > 3)
+                yield from ((path, it) for it in sentences_of(block) if len(it.split()) > 3)
 
 
 def main():

@@ -1,4 +1,5 @@
--- This file defines the page that `cyclone explain` prints for a fault code. The contents of the pages are this project's own choice.
+-- This file defines the page that `cyclone explain` prints for a fault code. The contents of the pages that `cyclone explain` prints are
+-- this project's own choice.
 use Rattle.std.specs.Prelude.{ℕ, List}
 use Rattle.cyc_words.specs.declared.fault.Code.{Code}
 use Rattle.cyc_words.specs.declared.fault.Code.TheVariants.{UnknownByte, UnclosedComment, NumberTooLarge, TextTooLong, Memory, TooManyTokens, UnexpectedToken, UnexpectedEnd, NestingTooDeep, ListTooLong, UnknownName, DeclaredTwice, TypeMismatch, NullForNonNull}
