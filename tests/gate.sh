@@ -1,9 +1,9 @@
 #!/usr/bin/env bash
 # The gate runs every proof and test of the crates (rt ci), and the suites of tests/suites.txt on the program just proved and built. The
 # gate also tests that the prover refuses wrong function bodies. First, the gate installs the commands that it needs, and ends if one cannot
-# be installed. Before the last line, the gate prints the cost of each crate and part; out/gate.md records these costs too, even if the gate
-# is stopped. After the costs, the gate lists the failures in short, for a reader who sees only the end of a long log. The last line is `N
-# passed, M failed` over all parts of the gate.
+# be installed. Before the last line, the gate prints the cost of each crate and of each part of the gate; out/gate.md records these costs
+# too, even if the gate is stopped. After the costs, the gate lists the failures in short, for a reader who sees only the end of a long log.
+# The last line is `N passed, M failed` over all parts of the gate.
 set -u
 cd "$(dirname "$0")/.." || exit
 # shellcheck disable=SC1091

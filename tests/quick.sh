@@ -25,7 +25,8 @@ begin() {
   printf '%s %s %s > "%s/%s" 2>&1; echo $? > "%s/%s.status"\n' "$line" "$*" "$more" "$logs" "$suite" "$logs" "$suite"
 }
 
-# add NAME ..: shows the output of a suite, and adds up its last line
+# add NAME ..: shows the output of a suite, and adds the counts in its last line `N passed, M
+# failed` to the totals
 add() {
   echo "== $1"
   cat "$logs/$1"

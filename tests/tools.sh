@@ -11,7 +11,7 @@ status=0
 modules=${MODULES:-/usr/lib/python3/dist-packages}
 # The folder of Debian's JavaScript libraries for web pages.
 libraries=${LIBRARIES:-/usr/share/javascript}
-# The folder of what programs of 32 bits are linked with.
+# The folder of the files with which 32-bit programs are linked.
 narrow=${NARROW:-/usr/lib32}
 for tool in $tools; do
   kind="command"

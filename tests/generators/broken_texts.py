@@ -1,8 +1,8 @@
 """Changes one part of a text: a token, or a statement."""
 from language.texts import KEYWORDS, tokens_of
 
-# Templates of statements that use a name, written `#` in the template. A statement made from such a
-# template is probably invalid.
+# Templates of statements that use a name, written `#` in the template. A statement made from one of
+# these templates is probably invalid.
 STATEMENTS = [
     "ufree(#);", "ufree(#);", "free_ukey(#);", "#;", "&#;", "*#;", "# = NULL;", "# = 1;", "show(*#);", "return #;", "break;",
     "continue;", "# == #;", "look(#);", "get(#);", "eat(#);", "# :=: #;", "#[0] = eaten(#);", "region<`z_> z_ = open(#);",

@@ -12,8 +12,9 @@ from machine import DATA, ENTRY_BYTES, HEADER, IDENT, LOADED, NOTE, TEXT
 # The number of bytes of an image, and the number of steps of a loop, that count as one token of a
 # source text.
 BYTES, STEPS = 8, 20
-# The maximum cost for each byte of an image, relative to the image that serves as the usual one. The
-# maximum cost of an executed step is relative to the usual step.
+# The maximum cost for each byte of an image, relative to the cost for a byte of the usual image (a
+# text of instructions of all sorts). The maximum cost of an executed step is relative to the cost of
+# a step of the usual loop.
 MOST, MOST_STEP = 1.5, 5.0
 SPENT = "budget spent"
 # An image that runs no loop: it only ends, so its cost contains no step of a loop.

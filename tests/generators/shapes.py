@@ -122,8 +122,8 @@ class Long(Shape):
 IN_MAIN = "int main ( ) { "
 BEHIND = " return 0 ; }"
 PROGRAM_BEHIND = " int main ( ) { return 0 ; }"
-# The maximum number of a list's elements, a chain's operators or a type's pointer marks; the maximum nesting depth in a
-# function body; and that depth in an initial value.
+# The maximum number of a list's elements, an operator chain's operators or a type's pointer signs (`*`, `@`, `?`); the
+# maximum nesting depth in a function body; and the maximum nesting depth in an initial value.
 AS_MANY, IN_BODY, IN_VALUE = 64, 199, 198
 
 
@@ -145,8 +145,8 @@ def chained(operand, operator, count=AS_MANY):
 FIELDS = listed("int f%", " ; ") + " ; "
 REGIONS = listed("`r%")
 MARKS = " ".join("*" * AS_MANY)
-# A struct with 64 region parameters, and a pointer to the struct with about 60 pointer marks. In the type of a
-# parameter, each mark has its own region.
+# A struct with 64 region parameters, and a pointer to the struct with about 60 pointer signs (`*`, `@`, `?`).
+# In the type of a parameter, each pointer sign has its own region.
 WIDE = f"struct W < {REGIONS} > {{ int * `r63 f ; }} ; "
 WIDE_POINTER = f"struct W < {REGIONS} > " + " ".join("*" * 60)
 
@@ -369,8 +369,8 @@ REFUSED = {
     "a token too many": Shape(IN_MAIN + "int x = 1 ; ", "x = 2 ; ", ") ;" + BEHIND, checked="fault 10"),
     "a text that is cut off": Shape(IN_MAIN + "int x = 1 ; ", "x = 2 ; ", "x = 2", checked="fault 11"),
     "a long name that is unknown": Shape("int main ( ) { ", "a", " = 1 ; return 0 ; }", checked="fault 20", by_bytes=True),
-    # for each shape below, a message is printed for the first fault of the text and for up to
-    # twenty further faults
+    # for each kind of text listed below, a message is printed for the first fault of the text and
+    # for up to twenty further faults
     "a name that is unknown in each function": Shape("", "void f# ( int x ) { x = 1 ; x = y ; } ", PROGRAM_BEHIND, checked="fault 20"),
     "an int for a pointer in each function": Shape("", "void f# ( int * p ) { p = NULL ; p = 1 ; } ", PROGRAM_BEHIND, checked="fault 22"),
     "a local that is empty in each function": Shape("", "void f# ( ) { int x ; int y = 1 ; y = x ; } ", PROGRAM_BEHIND, checked="fault 40"),

@@ -7,7 +7,8 @@ import machine
 import stores
 from image_makers import NOP, constant, image, moved, number_in, service, word_of
 
-# Register 28 points to the words that store handles and addresses; register 20 holds a sum.
+# Register 28 points to the memory words that store region handles and block addresses; register 20
+# holds the sum that the program prints at the end.
 KEPT, SUM = 28, 20
 LEAVES = machine.DATA + 0x1000
 BLOCK = stores.BLOCK_AT_MOST

@@ -292,8 +292,8 @@ class Person:
         self.want(f"{name}: what the browser complains of", [], self.window.errors())
 
 
-# Lists the elements of the page that reach beyond the window's right edge, outside any scrolling
-# part.
+# Lists the elements of the page that reach beyond the window's right edge, outside any element that
+# scrolls.
 TOO_WIDE = """
 const most = document.documentElement.clientWidth;
 const inScroll = it => it.closest('.editor, .scroll, .rule, #output, .skip') || !it.checkVisibility();

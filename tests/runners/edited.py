@@ -614,7 +614,7 @@ def has(wanted, got):
 
 
 # The source file that writes the last line of a command's output, and the pattern of the first
-# words of each such line.
+# words of each possible last line.
 ANSWERS = os.path.join(suite.ROOT, "crates", "cyc_host", "src", "answer.rt")
 LAST_WORDS = re.compile(r'Answer::\w+(?:\(\w+(?:, \w+)*\))? => (?:\{\s*let [^;]*;\s*)?(?:f\.write_str\(|write!\(f, )"([a-z]+(?: [a-z]+)*)')
 

@@ -243,8 +243,8 @@ COSTS_OF_TEXTS = [
     (WITH_FAULT, lambda tokens: 10500 * tokens, "fault 20 at 1:1", ["for each part"]),
     (WITH_FAULT, lambda tokens: 1000 * tokens, "done", ["the last line"]),
     (WITH_FAULT, lambda tokens: 2 * tokens * tokens, "fault 20 at 1:1", ["twice as long"]),
-    # The part of a text before its repeated forms has a constant length, and each token is charged
-    # its share of the cost of that part.
+    # The beginning of a text, before its repeated pieces, has a constant length, and each token is
+    # charged its share of the cost of this beginning.
     (BEHIND_MUCH, lambda tokens: 1000 * tokens + 400_000, "done", []),
     (BEHIND_MUCH, lambda tokens: 1000 * tokens + 600_000, "done", ["for each part"]),
     (BEHIND_MUCH, lambda tokens: 500_000 + (tokens - 500) ** 2, "done", ["twice as long"]),

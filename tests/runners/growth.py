@@ -30,7 +30,7 @@ MOST_GROWTH = 2.1
 # The maximum memory of a command in MB of 2^20 bytes, and the maximum output on standard error in
 # bytes: that of 22 messages.
 MOST_MEMORY, MOST_SAID = 256, 22 * 4096
-# The minimum number of repeated forms in a generated text.
+# The minimum number of copies of the repeated piece in a generated text.
 FORMS = 4
 # The number of seconds of processor time after which a command is stopped.
 SECONDS = 120
@@ -41,7 +41,7 @@ KINDS = {"Text": shapes.TEXTS, "Image": image_shapes.IMAGES, "Loop": image_shape
 
 # `Cost` is the cost of a command on a file: instructions (None if the command did not end), peak memory in MB, and the size of the image
 # made. `Cost` also has the number of bytes on standard error and the last line printed there. `Figures` is the cost of the files of one
-# shape: the ratio to the usual file, and the ratio to a file with half as many repeated forms.
+# shape: the ratio to the usual file, and the ratio to a file with half as many repeated pieces.
 Cost = collections.namedtuple("Cost", ("instructions", "memory", "length", "said", "made"))
 Figures = collections.namedtuple("Figures", ("share", "growth", "cost"))
 

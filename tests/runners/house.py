@@ -54,8 +54,8 @@ def lemmas():
             if not re.search(rf"^{match[1]}{re.escape(match[3])}(?![\w'-])(?! :)", text[match.start():], re.M):
                 continue
             lines = match[4].split("\n")
-            # Removes the equations of the last declaration; the lines after an empty line belong to the next
-            # declaration.
+            # Removes the equations of the last declaration; the lines after an empty line are part of the
+            # next declaration.
             kept = [lines[0]]
             for line in lines[1:]:
                 if not line.strip() or re.match(rf" *{re.escape(match[3])}\b.* = ", line):
@@ -180,8 +180,8 @@ def files_with(word):
     return sum(bool(re.search(rf"\b{word}\b", text)) for text in sources().values())
 
 
-# Kinds of additions to the language, each with an existing form as an example and the variant name
-# of that form.
+# Kinds of additions to the language, each with an existing construct as an example and the name of
+# the tree variant of that construct.
 FORMS = (
     ("a construct that a typing rule gives a meaning", "`char(e)`", "LowByteOf"),
     ("an operator", "`~`", "Complement"),

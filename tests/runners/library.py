@@ -25,8 +25,8 @@ FOLDER = os.path.join(suite.ROOT, "lib")
 PROGRAMS = os.path.join(suite.TESTS, "lib")
 WORDS = ("no", "one", "two", "three", "four", "five", "six")
 MOST_CALLS = re.compile(r"at\s+most\s+(\w+)\s+calls?\s")
-# The patterns of two hints of the compiler. One names the library function to write in place of a C
-# function; the other names the library file that declares a missing name.
+# The patterns of two hints of the compiler. The first hint names the library function to write in
+# place of a C function; the second hint names the library file that declares a missing name.
 INSTEAD = re.compile(r"write (\w+)\(.*\bcompile --with lib/(\w+\.cyc)")
 DECLARES = re.compile(r"compile --with lib/(\w+\.cyc), which declares it")
 NO_BOUND = re.compile(r"pages\s+of\s+a\s+program\s+without\s+a\s+bound")

@@ -48,7 +48,8 @@ IMAGES = {
 CALLS = {**TEXTS, **IMAGES}
 NUMBERS = {name: number for number, name in enumerate(IMAGES, 1)}
 NO_CALL = "none"
-# The byte of an image's header that contains the planted switch: the last byte of the flags.
+# The byte of an image's header that states the number of the call that always runs out of memory:
+# the last byte of the flags.
 BYTE = 39
 
 

@@ -41,8 +41,8 @@ HERE = os.path.dirname(os.path.abspath(__file__))
 # The program's case files that only check source texts and take little time.
 TEXT_CASES = ["flow", "parsing", "texts", "tokens", "types"]
 
-# A stand-in for the program. It gives the same results with both heap implementations for each image except two: for one the
-# output differs, for the other the instruction count.
+# A stand-in for the program. The stand-in gives the same results with both heap implementations for each image except two:
+# for one the output differs, for the other the instruction count.
 STAND_IN = """#!/bin/sh
 run() {
   cat

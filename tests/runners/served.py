@@ -43,7 +43,7 @@ os.execv(sys.argv[1], sys.argv[1:])" "$@"' sh "{page}" "$@"
 """
 # The limits of the servers under test. On a busy machine a process may take long and must still end by itself, so the time limit is
 # long. A test that stops a run by the clock uses the limit SHORT. A run that must continue until it is stopped gets more steps than any
-# machine executes in that time.
+# machine executes within its time limit.
 SECONDS, SHORT, RUNS, OUTPUT, TEXT = 60, 3, 2, 10_000, 50_000
 WITHOUT_END = ("--steps", "1000000000000")
 # The time that an answer may take in addition to the server's time limit; it grows with the load of
@@ -340,7 +340,7 @@ def like_gcc(server, example):
     return [] if got == wanted else [suite.difference(example["name"], wanted, got)]
 
 
-# The maximum number of lines of a listing. The stand-in for the program that is defined here
+# The maximum number of lines of a listing. The script that stands in for the program in this test
 # records the arguments of its command line.
 LISTED = 4_000
 NOTING = """#!/bin/sh
@@ -617,7 +617,7 @@ LOADS = (
 # The number of runs under load, of simultaneous connections, and of client addresses.
 LOADED, CONNECTIONS, ADDRESSES = 1_000, 200, 40
 # The time limit in seconds and the number of runs at once under load. Hostile clients occupy some
-# of the runs for that time.
+# of the runs up to this time limit.
 LOAD_SECONDS, LOAD_RUNS = 20, 4
 # A run with this step limit is recognised as one that the test kills.
 MARKED = 999_999_999_999

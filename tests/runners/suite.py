@@ -31,7 +31,8 @@ STACK = 4
 # Debian packages that contain them.
 TOOLS = os.path.join(TESTS, "tools.txt")
 # For each prefix of a module's name in tools.txt, as in tools.sh: the variable that names the folder of these modules, and the folder in
-# Debian. They are modules of python3, JavaScript modules for web pages, and files that programs of 32 bits are linked with.
+# Debian. The modules in tools.txt are modules of python3, JavaScript modules for web pages, and files that programs of 32 bits are
+# linked with.
 MODULES = {
     "python3-": ("MODULES", "/usr/lib/python3/dist-packages"), "libjs-": ("LIBRARIES", "/usr/share/javascript"),
     "lib32-": ("NARROW", "/usr/lib32"),

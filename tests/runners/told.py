@@ -113,8 +113,8 @@ class Pair:
     def faults(self, program):
         lines = said_of(program, "\n".join(self.lines))
         found = messages_of(lines)
-        # A mistake in the use of a built-in name disappears if the name is renamed, so such a text
-        # is skipped.
+        # A mistake in the use of a built-in name disappears if the name is renamed, so a text with
+        # a mistake of this sort is skipped.
         first = found[0].place[0] if found else 3
         if first > 2:
             return [], False

@@ -20,8 +20,8 @@ import suite
 
 PAGE = os.path.join(suite.ROOT, "docs", "TRUSTED.md")
 CRATES = os.path.join(suite.ROOT, "crates")
-# The public calls: for each, the symbol that stands for it in the tables, its name, its crate, and the type
-# of the receiver if the call is a method.
+# The public calls: for each, the symbol that stands for it in the tables of docs/TRUSTED.md, its name, its
+# crate, and the type of the receiver if the call is a method.
 CALLS = (
     ("a", "accept", "cyc_front", None),
     ("c", "compile", "cyc_compiler", None),

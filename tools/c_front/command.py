@@ -15,7 +15,8 @@ STATUS = {"done": 0, "refused": 2, "usage": 9}
 FAULT = re.compile(r"fault (\d+) at (\d+):\d+")
 PLACED = re.compile(r"(?P<file>[^\n:]*\.cyc):(?P<line>\d+):(?P<column>\d+): (?P<rest>.*)")
 
-# The codes of the refusals for regions: one that is not live, one that does not live as long as another, and one of a callee.
+# The codes of the refusals for regions: a region that is not live, a region that does not outlive another, and a region of a
+# callee's effect that is not live.
 REGIONS = (24, 25, 26)
 BY_NAME = {"Null_Exception": "a null pointer is followed", "Array_bounds": "an access outside of its array",
            "Array_size": "an array of more than 1,000 words, or fewer than 0 elements", "Div_zero": "a division by 0"}

@@ -232,8 +232,9 @@ same_addresses code other addresses long points places = record {
   below = λ line inside. places.below line (omega (arith, inside, long));
 }
 
--- Words that represent the labelled code `code` also represent the labelled code `other` under three conditions. Both codes have equally
--- many lines and the same maximal number of words. Each line to which calls return in `other` is a line to which calls return in `code`.
+-- Words that represent the labelled code `code` also represent the labelled code `other` under three conditions. The codes `code` and
+-- `other` have equally many lines and the same maximal number of words. Each line to which calls return in `other` is a line to which
+-- calls return in `code`.
 text_as : (code other order : Labelled) (addresses : ℕ → ℕ) (words : List ℕ) → length other.lines ≡ length code.lines → Points code other → all_words other.lines ≡ all_words code.lines
     → IsTextInOrder code order addresses words → IsTextInOrder other order addresses words
 text_as code other order addresses words long points most text = record {

@@ -176,9 +176,9 @@ meeting_words : assembled meeting ≡
     ∷ []
 meeting_words = refl
 
--- Example: instructions are moved down to a branch: past one operand of the branch, past two, and past a store, which is no operand. A line
--- is not moved in four cases: it sets a register that is read after it, reads one that is set after it, precedes a line with a label, or
--- would pass a load.
+-- Example: instructions are moved down into delay slots of branches. One passes the instruction that sets the tested register, one passes
+-- two instructions, and a store passes a comparison. An instruction is not moved down to a branch in four cases. It sets a register that is
+-- read after it, reads one that is set after it, precedes a line with a label, or would pass a load.
 abbrev passing : Labelled
 passing = record {
   lines =
@@ -234,7 +234,7 @@ passing_words : assembled passing ≡
 passing_words = refl
 
 -- A branch to a far target becomes the inverse branch over a jump, with the moved instruction in the delay slot of the inverse branch.
--- (The statement holds for any code.)
+-- (This form of a far branch is proved for any labelled code, not for one example only.)
 far_words : (code : List Line) (number label : ℕ) (i : Instr) → slice_get code number ≡ Some (lines.Ordinary i) → filling code (suc number) ≡ Some i
     → slice_get code (suc number) ≡ Some (lines.Branch (conditions.Registers NotEqual (register_of 9) (register_of 0)) label) → is_near code (suc number) label ≡ false
     → (words_in code number (slice_get code number) ≡ 0x11200003 ∷ [])

@@ -274,7 +274,8 @@ module _ (code : Labelled) (exchanged : List Line) (number : ℕ) (first second 
   follows store calls input never =
       simulates above below matching matched (code_is_lawful new_code addresses) [] (labelled.start code store calls input) never (labelled.start new_code store calls input) refl (inl (refl, (λ same. omega (arith, same))))
 
-  -- If two ways to assign addresses of text to lines have equal costs for each line, they have equal costs for each run.
+  -- Two functions map each line to addresses of text. If the addresses of each line have equal total costs under both
+  -- functions, so have the addresses of each run.
   module _ (one other : ℕ → List ℕ) (same : (price : ℕ → ℕ) (line : ℕ) → sum_by price (one line) ≡ sum_by price (other line)) (from : labelled.State) (w : World) where
     sums : (price : ℕ → ℕ) (places : List ℕ) → sum_by (λ (p : ℕ). sum_by price (one p)) places ≡ sum_by (λ (p : ℕ). sum_by price (other p)) places
     sums price [] = refl

@@ -79,8 +79,8 @@ pub position-unreached : (code : List Line) (number : ℕ) → is_unreached code
 position-unreached code number unreached =
     ap (λ b. position code number + cond b 0 (width_in code number (slice_get code number))) unreached ∙ (let e : position code number + 0 ≡ position code number = omega arith in e)
 
--- The position of the next line is at least that of this line. It is at most that position plus the
--- number of words that this line takes if it is reachable.
+-- The position of the next line is at least that of this line. The position of the next line is at
+-- most that of this line plus the number of words that this line takes if it is reachable.
 pub position-next : (code : List Line) (number : ℕ) (line : Line) → slice_get code number ≡ Some line
     → (position code number ≤ position code (suc number)) × (position code (suc number) ≤ position code number + width_of code number line)
 position-next code number line found = by (is_unreached code number) refl
@@ -179,7 +179,7 @@ near_above code from to near in_from in_to up =
     let second : most_before code from ≤ most_before code to + MAX_REACH = leb-true (most_before code from) (most_before code to + MAX_REACH) (and_right (nat_le (most_before code to) (most_before code from + MAX_REACH)) (nat_le (most_before code from) (most_before code to + MAX_REACH)) near) in
     omega (arith, most, second)
 
--- The words that belong to the lines, in the order of the lines, are all words of the text.
+-- The words of each line, taken line by line in the order of the lines, are together all words of the text.
 pub own_words : (code : Labelled) (count : ℕ) → flat_map (own (addresses_in code.lines)) (range_with_len 0 count) ≡ stretch text_base (position code.lines count)
 own_words code zero = refl
 own_words code (suc count) =

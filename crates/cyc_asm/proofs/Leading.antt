@@ -170,8 +170,9 @@ module _ (code : Labelled) (addresses : ℕ → ℕ) where
     abbrev pub placed : Configuration → World
     placed c = world_at words c (addresses c.line) (add_of (addresses c.line) 4) false
 
-    -- `Between` relates states in the middle of a filled delay slot. The labelled machine has executed the instruction before the branch or
-    -- jump. The MIPS machine has executed the branch or jump, and executes the instruction in the delay slot next.
+    -- `Between` relates states in the middle of a filled delay slot. In the states that `Between` relates, the labelled machine has
+    -- executed the instruction before the branch or jump. The MIPS machine has executed the branch or jump, and executes the instruction in
+    -- the delay slot next.
     pub record Between (c : Configuration) (i : Instr) (line : Line) (w : World) : Type 0 where
       pub before : Configuration
       pub found : slice_get code.lines c.line ≡ Some line

@@ -222,8 +222,8 @@ module _ (code : Labelled) (formed : IsFormed code) (fits : Fits code.lines) whe
         slot = record { encodable = encodable; word = second };
       }
 
-  -- The lemmas of this module assume that the text contains the word of a branch or jump at an address, followed
-  -- by the words that belong to it.
+  -- The lemmas of this module assume that the text contains the word of a branch or jump at an address. The text
+  -- also contains, after this word, the branch's or jump's delay slot and any further words.
   module _ (number from : ℕ) (slotted : Instr) (encodable : IsEncodable slotted) (is_head : IsHeadPosition code.lines number from) where
     abbrev here : ℕ
     here = text_base + 4 * from

@@ -143,7 +143,7 @@ position_left_out code positions number is below = go (is_unreached code number)
         ∙ sym reached
 
 -- A branch is near its label if the entries for both lines in the table of maximum word counts differ by at most `MAX_REACH`.
--- Otherwise the branch is far from its label.
+-- If the entries for the lines of a branch and its label differ by more than `MAX_REACH`, the branch is far from its label.
 pub near_here : (code : List Line) (most : List ℕ) (number label : ℕ) (near b : Bool) → most ≡ most_of_each code → number < length code → label < length code
     → near ≡ (nat_le (get_or most label 0) (get_or most number 0 + MAX_REACH) && nat_le (get_or most number 0) (get_or most label 0 + MAX_REACH)) → near ≡ b
     → is_near code number label ≡ b
@@ -159,7 +159,7 @@ pub width_of_branch : (code : List Line) (number : ℕ) (d : Line) (condition : 
 width_of_branch code number d condition label b below here near =
     width_here code number d (lines.Branch condition label) below here ∙ ap (λ b. head_width (filling code number) + tail_width b) near
 
--- The machine instruction computed for a branch or jump that is looked up in the code is that of the line with this index.
+-- If a branch or jump is looked up in the code by line index, the machine instruction computed for it is that of this line.
 
 pub head_here : (code : List Line) (from number : ℕ) (d line : Line) → number < length code → get_or code number d ≡ line → head_in code from number (slice_get code number) ≡ head_of code from number line
 head_here code from number d line below here = ap (head_in code from number) (line_here code number d line below here)

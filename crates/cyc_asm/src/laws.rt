@@ -23,7 +23,7 @@ pub fn orders_have_each_line()
     ensures { (code : List Line) → IsPermutation code (arranged code) }
 {}
 
-/// If the lines of labelled code are partitioned in any way into groups, each word of the text belongs to exactly one group.
+/// If the lines of labelled code are partitioned in any way into groups, each word of the text comes from the lines of exactly one group.
 pub fn words_are_shared_out()
     ensures { (code : Labelled) (addresses : ℕ → ℕ) (words : List ℕ) → IsTextOf code addresses words
         → (some others : List ℕ) → some ++ others ≡ range_with_len 0 (length code.lines)

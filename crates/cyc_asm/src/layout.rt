@@ -44,7 +44,7 @@ pub(crate) fn is_near(from: u32, to: u32) -> bool
     to <= from + MAX_REACH && from <= to + MAX_REACH
 }
 
-/// Returns the number of words that a line's branch or jump takes at the line's own position, without its delay slot. The number
+/// Returns the number of words that a line's branch or jump takes at the line's own position, without its delay slot. The number of words
 /// is 0 if an instruction fills the delay slot (the branch or jump is then emitted before that instruction), otherwise 1.
 fn head_width(lines: &[Line], named: &[bool], number: usize) -> u32
     requires named { AreNamed lines.now (length lines.now) named.now }

@@ -140,8 +140,8 @@ fn is_filled(lines: &[Line], named: &[bool], number: usize) -> bool
     filling(lines, named, number).is_some()
 }
 
-/// Moves the instruction `count` lines before line `number` down to the branch or jump at line `number`, if the instruction then fills its
-/// empty delay slot.
+/// Moves an instruction past the `count` lines just before line `number`, to the branch or jump at this line, if it then fills its empty
+/// delay slot.
 fn try_past(lines: &mut [Line], named: &[bool], number: usize, count: usize)
     requires within { number < length lines.old }
     requires named { AreNamed lines.old (length lines.old) named.now }

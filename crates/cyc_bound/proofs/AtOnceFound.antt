@@ -26,7 +26,8 @@ use Rattle.cyc_bound.specs.inside.Reached.{AreReached}
 
 -- ---- lists
 
--- says that a block's cost is the greater of the cost found so far and the cost of the block's elements from index i on
+-- says that a block's costliest outermost region costs the greater of the cost found so far and the cost for the
+-- block's elements from index i on
 abbrev pub ItemsLeft : Measure → (costs : List ℕ) → List ItemCode → (i most : ℕ) → Type 0
 ItemsLeft m costs js i most = (min too_many (max most (items_at_once m costs (items_of (drop i js)))) ≡ min too_many (items_at_once m costs (items_of js))) × (most ≤ too_many)
 
@@ -43,7 +44,8 @@ module _ (m : Measure) (costs : List ℕ) where
       ap (λ (x : Stmt). statement_at_once m costs (view_statement x)) is ∙ ap (λ (s : Statement). statement_at_once m costs s) (view_block r v)
       ∙ ap (λ (js : List ItemCode). items_at_once m costs (items_of js)) (sym same)
 
-  -- the cost of catch clauses with a default clause is the greater of the cost of the other clauses and the cost of the default clause
+  -- in catch clauses with a default clause, the costliest outermost region costs the greater of the cost for the other clauses and
+  -- that for the default clause
   clauses_with : (cs : List Clause) (default : Clauses) → clauses_at_once m costs (clauses_of cs default) ≡ max (clauses_at_once m costs (clauses_of cs NoClauses)) (clauses_at_once m costs default)
   clauses_with [] default = omega arith
   clauses_with (c ∷ cs) default = omega (arith, clauses_with cs default)
@@ -67,11 +69,11 @@ module _ (program : Program) (m : Measure) (costs : List ℕ) where
   abbrev F : ℕ → ℕ
   F f = min too_many (at_once_of m costs (slice_get program.functions f))
 
-  -- says that a cost is that of a function reachable from `main`, or 0
+  -- says that a cost is that of the costliest outermost region of a function reachable from `main`, or 0
   abbrev IsOne : ℕ → Type 0
   IsOne most = (most ≡ 0) ⊎ ((f : ℕ) × (count : ℕ) × Row program program.main f count × (most ≡ F f))
 
-  -- says that `most` is the greatest cost of an outermost region among the first i functions
+  -- says that `most` is the cost of the costliest outermost region in the first i functions of a list
   pub record IsSoFar (found : List ℕ) (i most : ℕ) : Type 0 where
     pub above : (k : ℕ) → k < i → F (get_or found k 0) ≤ most
     pub is : IsOne most

@@ -12,20 +12,21 @@ use Rattle.cyc_bound.proofs.WalkLemmas.{so_far_none, so_far_more, so_far_all}
 
 -- ---- callees of bodies
 
--- example `f(g(1)) + h()`: the arguments of a call come before its callee, and operands are in order from left to right
+-- example `f(g(1)) + h()`: in the list of called functions, a function comes after those called in its arguments, and
+-- operands are visited from left to right
 operands_call : items_callees (items (return (two (call 1 (call 2 (Number 1 ∷ []) ∷ [])) operators.Add (call 3 [])) ∷ [])) ≡ 2 ∷ 1 ∷ 3 ∷ []
 operands_call = refl
 
--- example `int a = f(); putchar(g());` with a loop: callees in initial values, in arguments of built-in functions, in conditions and
--- in bodies
+-- example `int a = f(); putchar(g());` with a loop: the functions called in initial values, in arguments of built-in functions, in
+-- loop conditions and in loop bodies
 statements_call : items_callees (items (declare 0 (call 1 []) ∷ execute (print (call 2 [])) ∷ while (call 3 []) (Evaluate (call 4 [])) ∷ [])) ≡ 1 ∷ 2 ∷ 3 ∷ 4 ∷ []
 statements_call = refl
 
--- example `try f(); catch { case A: g(); default: throw B(h()); }`: callees in the body and in the clauses
+-- example `try f(); catch { case A: g(); default: throw B(h()); }`: the functions called in the `try` body and in the catch clauses
 clauses_call : items_callees (items (Execute (Try (Evaluate (call 1 [])) (Case 5 None 1 (items (execute (call 2 []) ∷ [])) (Default 2 (items (Execute (Throw 6 (Some (call 3 []))) ∷ []))))) ∷ [])) ≡ 1 ∷ 2 ∷ 3 ∷ []
 clauses_call = refl
 
--- example: a callee in the right operand of `&&` counts, even if the operand is not evaluated
+-- example: a function called in the right operand of `&&` counts as called, even if the operand is not evaluated
 skipped_calls : items_callees (items (execute (both (Number 0) (call 1 [])) ∷ [])) ≡ 1 ∷ []
 skipped_calls = refl
 
@@ -43,7 +44,7 @@ middle_height = so_far_all chain 1 (2 ∷ []) 1 2 refl (omega arith) (so_far_mor
 chain_bound : IsBound chain 3
 chain_bound = so_far_all chain 0 (1 ∷ []) 1 3 refl (omega arith) (so_far_more chain 0 (1 ∷ []) 0 1 1 2 refl (so_far_none chain 0 (1 ∷ [])) (omega arith) refl middle_height (omega arith))
 
--- example: in the run of a program with a chain of calls, as many calls are active as the bound states
+-- example: in the run of a program in which each function calls the next one, as many calls are active as the bound states
 chain_reaches : depth (run chain [] 14) ≡ 3
 chain_reaches = refl
 

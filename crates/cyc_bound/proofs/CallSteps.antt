@@ -506,7 +506,7 @@ module _ (program : Program) where
   abbrev S : State → Type 0
   S s = IsInSome program s
 
-  -- a call starts at the body of the called function
+  -- after the step that enters a call, the code that the call has still to execute is the whole body of the called function
   pub calls_function : (o : Option Function) (number : ℕ) (arguments : List Operand) (stack : List Entry) (w : World) → slice_get program.functions number ≡ o → Waits program number stack → IsIn program number (called o arguments stack w)
   calls_function (Some h) number arguments stack w there waits =
       either program number (length arguments == length h.parameters) _ _ (body_is_of program number h there, waits) tt

@@ -105,7 +105,7 @@ back_by program rounds measures.RegionBlocks = at_once_by program rounds measure
 back_by program rounds measures.RegionWords = at_once_by program rounds measures.RegionWords
 back_by program rounds m = cost_by program rounds m
 
--- the statement `rnew(h) 7`, where h is the handle in the local with this number
+-- the statement `rnew(h) 7`, where h is the region handle stored in the local with the given index
 abbrev made_by : ℕ → Item
 made_by number = execute (new (ByHandle (variable number (Handle Heap))) at (Number 7))
 
@@ -141,8 +141,8 @@ heap_handle_lasts = refl
 heap_handle_blocks : cost_by heap_handle 1 measures.Blocks ≡ too_many
 heap_handle_blocks = refl
 
--- while (1) { region<`a> h; rnew(h) 7; { region<`b> k; rnew(k) 7; } } return 0;
--- Example: the page and the block of an inner region are added to those of the outer region.
+-- while (1) { region<`a> h; rnew(h) 7; { region<`b> k; rnew(k) 7; } } return 0; Example: the costs of an inner region, one page and one
+-- block, are added to those of the outer region, which is open at the same time.
 abbrev nested : Program
 nested = program (while (Number 1) (block (DeclareRegion 2 0 ∷ made_by 0 ∷ Execute (block (DeclareRegion 3 1 ∷ made_by 1 ∷ [])) ∷ [])) ∷ return (Number 0) ∷ [])
 

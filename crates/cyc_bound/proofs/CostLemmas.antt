@@ -59,7 +59,8 @@ kind_is a b same = sym (kind_by_number a) ∙ ap (λ (n : ℕ). kind_of_number n
 
 -- ---- array lengths
 
--- if an array fits the size limit, its number of elements is at most the maximum for their kind
+-- if an array fits the size limit, its number of elements is at most the maximum for elements of their representation kind (int, char,
+-- pointer, ..)
 pub elements_fit : (kind : Kind) (count : ℕ) → words_for (count * bytes_of_kind kind) ≤ most_words → min count (most_elements kind) ≡ count
 elements_fit kinds.Int count fits = omega (arith, fits)
 elements_fit kinds.Char count fits = omega (arith, fits)
@@ -295,7 +296,7 @@ module _ (m : Measure) (costs : List ℕ) (no_more : IsNoMore m) where
   initial_no_more (Fields fields) = fields_no_more 0 0 fields
   initial_no_more (Array place level count kind element) = omega (arith, array_no_more kind (expression_cost m costs element) (written_length count))
 
--- says: if the value in focus is a handle of the heap, an allocation by a handle costs at least as much as one on the heap
+-- says: if the value just computed is a handle of the heap, an allocation by a handle costs at least as much as one on the heap
 abbrev pub Fits : Measure → Focus → Type 0
 Fits m (Given v) = v.value ≡ Handle heap_number → IsNoMore m
 Fits m focus = Unit {0}

@@ -1,5 +1,5 @@
--- A step does not raise the cost of a run. The cost of a run is the sum of the costs of the focus, of the stack and of the
--- resources used so far; this sum never increases. If steps are counted, the sum decreases at each step.
+-- A step does not raise the cost of a run. The cost of a run is the sum of the costs of the focus (next action), of the
+-- stack and of the resources used so far. This sum never increases. If steps are counted, the sum decreases at each step.
 use Rattle.std.proofs.Common.{◌≡◌, ℕ, suc, ◌+◌, ◌*◌, ◌-◌, ◌%◌, ◌^◌, ◌<◌, ◌≤◌, min, List, [], ◌∷◌, ◌++◌, drop, length, reverse, Option, Some, None, refl, ap, arith, suc-mul}
 use Rattle.std.specs.Prelude.{◌==◌, unwrap_or, slice_get, get_or}
 use Rattle.cyc_words.proofs.Items.{get_or-map}

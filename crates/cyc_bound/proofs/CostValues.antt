@@ -1,5 +1,5 @@
--- The steps that evaluate lvalues and values do not raise the cost of a run. The cost of a run is the sum of the costs of the focus,
--- of the stack and of the resources used so far; this sum never increases. If steps are counted, the sum decreases at each step.
+-- The steps that evaluate lvalues and values do not raise the cost of a run. The cost of a run is the sum of the costs of the focus (next
+-- action), of the stack and of the resources used so far. This sum never increases. If steps are counted, the sum decreases at each step.
 use Rattle.std.proofs.Common.{◌≡◌, ℕ, zero, suc, ◌+◌, ◌*◌, ◌-◌, ◌<◌, ◌≤◌, min, Bool, true, false, List, [], ◌∷◌, length, reverse, Option, Some, None, refl, ap, arith, suc-mul}
 use Rattle.std.specs.Prelude.{◌==◌, ◌&&◌, nat_le, if◌then◌else◌, slice_get}
 use Rattle.std.proofs.lemmas.Bool.{leb-true, eqb-false}
@@ -75,7 +75,7 @@ module _ (program : Program) (m : Measure) (costs : List ℕ) (counted : World �
   pub returns_now : (o : Option Operand) (stack : List Entry) (e : Environment) (w : World) → t + A stack w ≤ k → B (Running (Returning o) stack e w)
   returns_now o stack e w h = omega (arith, h, few, nothing m costs Anything stack (omega (arith, h, few)))
 
-  -- if the cost bound holds for any value of a kind, it holds for a computed value of this kind
+  -- if the cost bound holds for any value of a representation kind (int, char, pointer, ..), it holds for a computed value of this kind
   computes_as : (kind : Kind) (r : Result) (stack : List Entry) (e : Environment) (w : World) → t + (S (OfKind kind None) stack + counted w) ≤ k → B (computed kind r stack e w)
   computes_as kind (Gives value) stack e w h = omega (arith, h, kept m costs kind (number_of value) stack)
   computes_as kind (Raises tag) stack e w h = omega (arith, h, few, nothing m costs (OfKind kind None) stack (omega (arith, h, few)))

@@ -39,7 +39,7 @@ use Rattle.cyc_bound.proofs.KeptSteps.{CalleeFits, CalleeFitsIn, MayOpen, step_k
 
 -- ---- costs counted since the opening of a region
 
--- the cost of all allocations in the regions from number `from` on
+-- the cost of the regions from index `from` on, with all allocations in these regions
 abbrev pub since : Measure → (from : ℕ) → World → ℕ
 since m from w = regions_spent m sites.Region (drop from w.regions)
 
@@ -180,7 +180,7 @@ from_after from w printed count (Wrong output input) change h = tt
 
 -- ---- states
 
--- says that a measure counts lexical regions that are open at the same time
+-- says that a measure (a kind of counted cost) counts the openings, blocks or words of lexical regions that are open at the same time
 abbrev pub IsRegional : Measure → Type 0
 IsRegional measures.Openings = Unit {0}
 IsRegional measures.RegionBlocks = Unit {0}
@@ -202,8 +202,8 @@ module _ (program : Program) (lasting : List ℕ) (tables : Measure → List ℕ
 
   -- Either no lexical region is open, or there is an index such that all open lexical regions have at least this index. If lexical
   -- regions are open, the newest stack entries are those inside the present outermost region, and all older entries are outside of it.
-  -- The cost used since the opening of the outermost region, plus the remaining cost of focus and newest entries, is at most the cost
-  -- stated for outermost regions.
+  -- To the cost used since the opening of the outermost region, the remaining cost of the focus (next action) and of the newest
+  -- entries is added. The sum is at most the cost stated for outermost regions.
   pub data Split (focus : Focus) (w : World) : List Entry → Type 0 where
     Outside : (stack : List Entry) → AreOutside stack → Split focus w stack
     Inside : (from : ℕ) (entry : Entry) (rest below : List Entry) → AreOutside below → IsFrom (suc from) w.regions

@@ -41,8 +41,8 @@ pub record AreBlocks (ones sums : Measure) (site : Site) : Type 0 where
   pub one : (size : ℕ) → block_cost ones site size ≡ 1
   pub all : (size : ℕ) → block_cost sums site size ≡ size
 
--- says that blocks placed in order need at most as many pages as there are blocks, and that two consecutive pages contain
--- more words than one page
+-- says that blocks placed one after the other need at most one page each, and that two consecutive pages contain more
+-- words than fit one page
 abbrev Grows : (ones sums : Measure) → Site → (pages filled : ℕ) → (sizes : List ℕ) → (after : ℕ) → Type 0
 Grows ones sums site pages filled sizes after =
     (after ≤ pages + blocks_spent ones site sizes) × ((suc page_words * after ≤ suc page_words * pages + filled + 2 * blocks_spent sums site sizes) × (pages ≤ after))

@@ -1,5 +1,5 @@
--- Each round of the computation raises costs of functions. The costs after a round stay below all sufficient costs, and after n rounds
--- they cover at least n nested calls.
+-- Each round of the computation raises costs of functions. The costs after a round are at most any costs that suffice for all
+-- functions. After n rounds, the costs cover at least all calls that are nested at most n deep.
 use Rattle.std.proofs.Common.{◌≡◌, ℕ, suc, ◌+◌, ◌<◌, ◌≤◌, max, List, length, get_or, sym, ap, subst, ◌∙◌, inl, inr, arith}
 use Rattle.std.proofs.lemmas.Bool.{cases_eq, cases_lt}
 use Rattle.std.proofs.lemmas.List.{length-set, get_or-set_same, get_or-set_other, set_past}

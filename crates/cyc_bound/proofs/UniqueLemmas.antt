@@ -46,7 +46,7 @@ module _ (program : Program) where
   pub so_far_none : UniquesSoFar program 0 0
   so_far_none = (λ m. 0, (refl, (omega arith, λ other less. absurd (omega (arith, less)))))
 
-  -- a function from measures to costs, changed for one size class of unique blocks
+  -- a function from measures (kinds of counted cost) to costs, in which the cost for one size class of unique blocks is replaced
   abbrev with_class : (class blocks : ℕ) → (Measure → ℕ) → Measure → ℕ
   with_class class blocks cost (measures.Uniques other) = if other == class then blocks else cost (measures.Uniques other)
   with_class class blocks cost m = cost m

@@ -73,7 +73,7 @@ array_block_cost m site = 0
 abbrev pub size_of_bytes : ℕ → ℕ
 size_of_bytes bytes = max 1 (words_for bytes)
 
--- the largest number of elements of the given kind in an array
+-- the largest number of elements of the given representation kind (int, char, pointer, ..) in an array
 abbrev pub most_elements : Kind → ℕ
 most_elements kinds.Char = 4000
 most_elements kinds.Fat = 333
@@ -84,7 +84,7 @@ abbrev pub written_length : Expression → Option ℕ
 written_length (Number n) = Some n
 written_length a = None
 
--- the allocation site of an object, from the object's placement
+-- the allocation site of a new object, as its `Placement` states: the heap, the region of a handle, or no region for a unique object
 abbrev pub site_of : Placement → Site
 site_of OnHeap = sites.Heap
 site_of AsUnique = sites.Unique

@@ -22,8 +22,8 @@ abbrev pub GivesBack : Program → (gives_back : Bool) → Type 0
 GivesBack program true = IsRunCost program measures.Lasting 0
 GivesBack program false = ((cost : ℕ) × IsRunCost program measures.Lasting (suc cost)) ⊎ StillGrow program measures.Lasting
 
--- Says that a measure is one of those that determine the number of pages. If lexical regions free everything allocated by a
--- handle, the blocks of the heap are counted separately from the blocks of other regions.
+-- Says that a measure (a kind of counted cost) is one of those that determine the number of pages. If lexical regions free
+-- everything allocated by a handle, the blocks of the heap are counted separately from the blocks of other regions.
 abbrev pub IsForPages : (gives_back : Bool) → Measure → Type 0
 IsForPages gives_back (measures.Uniques class) = class ≤ greatest_class
 IsForPages gives_back measures.Openings = Unit {0}

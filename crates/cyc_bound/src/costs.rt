@@ -86,7 +86,7 @@ pub(crate) fn opening_cost(measure: Measure) -> u64
     }
 }
 
-/// Returns the cost of a thing that may outlast every lexical region.
+/// Returns the cost of a handle of the heap used as a value, or of a dynamic region, since these may outlast every lexical region.
 pub(crate) fn lasting_cost(measure: Measure) -> u64
     ensures { result ≡ lasting_cost measure }
 {
@@ -194,7 +194,8 @@ fn bytes_of_kind(kind: Kind) -> u128
     }
 }
 
-/// Returns the offset just after a field of the given kind that follows `bytes` bytes.
+/// Returns the offset just after a struct field of the given representation kind (int, char, pointer, ..) that follows `bytes` bytes of
+/// other fields.
 pub(crate) fn bytes_after(kind: Kind, bytes: u128) -> u128
     requires { bytes ≤ 2 ^ 100 }
     ensures { result ≡ following kind bytes }
@@ -215,7 +216,7 @@ fn size_of_bytes(bytes: u128) -> u128
     if words == 0 { 1 } else { words }
 }
 
-/// Returns the largest number of elements of the given kind in an array.
+/// Returns the largest number of elements of the given representation kind (int, char, pointer, ..) in an array.
 fn most_elements(kind: Kind) -> u64
     ensures { result ≡ most_elements kind }
 {

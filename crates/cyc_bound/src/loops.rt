@@ -1,6 +1,6 @@
-//! Finds a loop that prevents a bound, for the diagnostic: a loop whose iterations cost something. If lexical regions free their
-//! blocks, the loop is one inside a region, or one that allocates on the heap or allocates a unique object. The search for the loop
-//! is not verified.
+//! Finds a loop that prevents a bound on steps or pages, for the diagnostic: a loop whose iterations cost something. If lexical
+//! regions free their blocks, a loop prevents a bound on pages if it is inside a region, allocates on the heap, or allocates a
+//! unique object. The search for the loop is not verified.
 use crate::at_once::opens;
 use crate::callees::add_items;
 use crate::costs::{Measure, TOO_MANY, known_cost};

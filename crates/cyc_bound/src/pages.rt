@@ -23,7 +23,7 @@ const PAGE_WORDS: u64 = 1024;
 pub enum PageBound {
     /// A run requests at most `count` pages.
     Pages { count: u64 },
-    /// The costs give the opened regions or the allocated blocks no bound below `TOO_MANY`.
+    /// The computed costs give the number of opened regions or of allocated blocks no bound below `TOO_MANY`.
     TooMany,
     /// The costs of functions still grow after the last round, for instance because a cycle of calls allocates each time.
     Cycle,

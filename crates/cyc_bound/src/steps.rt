@@ -14,7 +14,7 @@ use std::alloc::{AllocError, Global};
 pub enum StepBound {
     /// Each run has ended after `count` steps.
     Steps { count: u64 },
-    /// The costs give no bound below `TOO_MANY`.
+    /// The computed costs give no bound on steps below `TOO_MANY`.
     TooMany,
     /// The costs of functions still grow after the last round. Each cycle of calls makes the costs grow without end, because
     /// each call costs steps.

@@ -102,7 +102,8 @@ fn expression_cost(measure: Measure, costs: &[u64], value: &Expr) -> u64
     }
 }
 
-/// Returns the allocation site of an object, from the object's placement.
+/// Returns the allocation site of a new object, as its `Placement` states: the heap, the region of
+/// a handle, or no region for a unique object.
 fn site_of(placement: &Placement) -> Site
     ensures { result ≡ site_of (view_placement placement.now) }
 {

@@ -205,20 +205,21 @@ module _ (c : RegionContext) where
 
 -- ---- loops
 
--- If the region at an index fits, and the regions after the index fit, then all regions from the index on fit.
+-- If the region at an index fits that of a parameter's type, and the regions after the index fit theirs, all regions from the index on fit.
 pub fits_from : {a b c : Table} (rs ss : List Region) (i : ℕ) (d e : Region) → i < length rs → i < length ss
     → FitsRegion a b (get_or rs i d) (get_or ss i e) → FitsRegions b c (drop (i + 1) rs) (drop (i + 1) ss) → FitsRegions a c (drop i rs) (drop i ss)
 fits_from {a} {b} {c} rs ss i d e lt_r lt_s one more =
     subst (λ xs. FitsRegions a c xs (drop i ss)) (sym (drop_more rs i d lt_r))
     (subst (λ xs. FitsRegions a c (get_or rs i d ∷ drop (i + 1) rs) xs) (sym (drop_more ss i e lt_s)) (fits_more one more))
 
--- If no regions are left from an index on, then the remaining regions fit.
+-- If two lists, of a parameter type's regions and an argument's regions, have no elements from an
+-- index on, the remaining regions (none) fit.
 pub fits_past : (table : Table) (rs ss : List Region) (i : ℕ) → length rs ≤ i → length ss ≤ i → FitsRegions table table (drop i rs) (drop i ss)
 fits_past table rs ss i le_r le_s =
     subst (λ xs. FitsRegions table table xs (drop i ss)) (sym (drop_all i rs le_r)) (subst (λ xs. FitsRegions table table [] xs) (sym (drop_all i ss le_s)) (fits_none table))
 
 module _ (c : RegionContext) where
-  -- If the value at an index fits its parameter, and the later values fit theirs, then all values from the index on fit.
+  -- If the value at an index fits its parameter, and the later values fit theirs, then all values from the index on fit their parameters.
   pub fits_values_from : {old mid new : Table} (ts : List TyCode) (vs : List ConvertedCode) (i : ℕ) (t : TyCode) (v : ConvertedCode)
       → i < length ts → t ≡ get_or ts i t → i < length vs → v ≡ get_or vs i v
       → FitsValue c old mid (view_ty t) (type_of (value_in v)) → FitsValues c mid new (map view_ty (drop (i + 1) ts)) (map value_in (drop (i + 1) vs))
@@ -227,7 +228,7 @@ module _ (c : RegionContext) where
       subst (λ xs. FitsValues c old new (map view_ty xs) (map value_in (drop i vs))) (sym (drop_read ts i t lt_t is_t))
       (subst (λ xs. FitsValues c old new (map view_ty (t ∷ drop (i + 1) ts)) (map value_in xs)) (sym (drop_read vs i v lt_v is_v)) (fits_more_values c one more))
 
-  -- If no values and no parameters are left from an index on, then the remaining values fit.
+  -- If no values and no parameters are left from an index on, then the remaining values (none) fit the remaining parameters.
   pub fits_values_past : (table : Table) (ts : List TyCode) (vs : List ConvertedCode) (i : ℕ) → length ts ≤ i → length vs ≤ i
       → FitsValues c table table (map view_ty (drop i ts)) (map value_in (drop i vs))
   fits_values_past table ts vs i le_t le_v =

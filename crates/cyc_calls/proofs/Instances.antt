@@ -37,8 +37,8 @@ noted_length table ((Variable n, r) ∷ ps) = noted_length (noted_at (slice_get 
 noted_length table ((Heap, r) ∷ ps) = noted_length table ps
 noted_length table ((Unique, r) ∷ ps) = noted_length table ps
 
--- In a table of regions, all elements are replaced by those of the table in which further regions are recorded. This replacement yields
--- the table with the further regions, since both tables have equal length.
+-- In a table of regions, all elements are replaced by those of the table in which further regions are recorded. Replacing all elements
+-- in this way yields the table with the further regions, since both tables have equal length.
 pub noted_whole : (table : List (Option Region)) (ps : List (Region × Region)) → refill (length table) table (noted_places table ps) ≡ noted_places table ps
 noted_whole table ps =
     let long : length (noted_places table ps) ≡ length table = noted_length table ps in

@@ -51,7 +51,8 @@ pub record Asks (one : Expression → typed.Expression → Ty → List Demand) (
   pub step : (e : Expression) (es : Expressions) (a : typed.Expression) (as' : List typed.Expression) (t : Ty) (ts : List Ty) → many (MoreExpressions e es) (a ∷ as') (t ∷ ts) ≡ one e a t ++ many es as' ts
 
 module _ (one : Expression → typed.Expression → Ty → List Demand) (many : Expressions → List typed.Expression → List Ty → List Demand) (asks : Asks one many) where
-  -- Returns the requirements on lists of expressions, values and types.
+  -- Returns all requirements that `many` states for a list of expressions, the list of their values, and the list of types to which the
+  -- values are converted.
   abbrev pub asked : List Expr → List ConvertedCode → List TyCode → List Demand
   asked es cs ts = many (expressions_of es) (map value_in cs) (map view_ty ts)
 

@@ -1,4 +1,5 @@
--- Calls of plain signatures: the traversal of the values checks all requirements of the rules on them.
+-- Calls of plain signatures (each region of a parameter is a region variable that occurs only once).
+-- The traversal of such a call's values checks all requirements of the typing rules on the values.
 use Rattle.std.proofs.Common.{◌≡◌, ℕ, zero, suc, ◌+◌, ◌<◌, ◌≤◌, true, false, ◌&&◌, not, nat_eq, List, [], ◌∷◌, ◌++◌, length, map, get_or, drop, slice_get, slice_set, replicate, unwrap_or, Option, Some, None, refl, sym, ap, subst, ◌∙◌, arith}
 use Rattle.std.specs.List.{list_any, list_all}
 use Rattle.std.proofs.lemmas.Bool.{and_from, or_from, or_left}
@@ -372,14 +373,14 @@ taken_settled g p es as' s is =
 
 -- ---- loops
 
--- If the value at an index is accepted, and the later values are accepted, then all values from the index on are accepted.
+-- If the value at an index can be converted to its parameter's type, and the later values can, then all values from the index on can.
 pub taken_from : (g : Scope) (ts : List TyCode) (vs : List ConvertedCode) (i : ℕ) (t : TyCode) (v : ConvertedCode) → i < length ts → t ≡ get_or ts i t → i < length vs → v ≡ get_or vs i v
     → TakesValue g (view_ty t) (type_of (value_in v)) → TakesAll g (map view_ty (drop (i + 1) ts)) (map value_in (drop (i + 1) vs)) → TakesAll g (map view_ty (drop i ts)) (map value_in (drop i vs))
 taken_from g ts vs i t v lt_t is_t lt_v is_v one rest =
     subst (λ xs. TakesAll g (map view_ty xs) (map value_in (drop i vs))) (sym (drop_read ts i t lt_t is_t))
     (subst (λ xs. TakesAll g (map view_ty (t ∷ drop (i + 1) ts)) (map value_in xs)) (sym (drop_read vs i v lt_v is_v)) (one, rest))
 
--- If no values and no parameters are left from an index on, then the remaining values are accepted.
+-- If no values and no parameters are left from an index on, then all remaining values (none) can be converted to their parameters' types.
 pub taken_past : (g : Scope) (ts : List TyCode) (vs : List ConvertedCode) (i : ℕ) → length ts ≤ i → length vs ≤ i → TakesAll g (map view_ty (drop i ts)) (map value_in (drop i vs))
 taken_past g ts vs i le_t le_v =
     subst (λ xs. TakesAll g (map view_ty xs) (map value_in (drop i vs))) (sym (drop_all i ts le_t)) (subst (λ xs. TakesAll g [] (map value_in xs)) (sym (drop_all i vs le_v)) tt)

@@ -264,7 +264,8 @@ fn called_by(
     )
 }
 
-/// Returns the tree node of a call of the function with the given name. The given values are the values of the given argument expressions.
+/// Returns the tree node of a call of the function with the given name. The values passed by the call are those of the given argument
+/// expressions.
 #[inline(never)]
 pub fn called(
     scope: &Scope<'_>,

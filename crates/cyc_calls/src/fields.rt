@@ -62,8 +62,8 @@ fn fields(alloc: Global, values: Vec<Converted>, types: &[Ty]) -> Result<Box<Ini
     boxed_initial(alloc, Initial::Fields { values })
 }
 
-/// Checks the requirements on a struct whose values are given for fields of the given types. The values are the results of the given
-/// expressions.
+/// Checks the requirements on a struct whose values are given for fields of the given types. The values for the fields are the
+/// results of the given expressions.
 #[tactic(auto, using(crate::proofs::Settling::settled_further))]
 fn demand_fields(
     so_far: &mut Settled,

@@ -66,7 +66,7 @@ pub(crate) fn demand_count(so_far: &mut Settled, span: Span, values: &[Converted
     so_far.demand(Code::TypeMismatch, span, values.len() == types.len());
 }
 
-/// Checks that each value can be converted to the type at its index. The values are the results of the given expressions.
+/// Checks that each value can be converted to the type at its index. The values to be converted are the results of the given expressions.
 pub(crate) fn pass(
     so_far: &mut Settled,
     scope: &Scope<'_>,

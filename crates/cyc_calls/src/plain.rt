@@ -1,6 +1,6 @@
 //! Calls of plain signatures, in which each region of a parameter is a region variable that occurs only once. The regions of the values
-//! of such a call only have to be live, and no region is recorded. If the traversal finds a value that does not fit its parameter, the
-//! call is checked like a call of a signature that is not plain.
+//! passed to a plain signature only have to be live, and no region is recorded for its region variables. If the traversal finds a value
+//! that does not fit its parameter, the call is checked like a call of a signature that is not plain.
 ghost use Rattle.std.specs.Prelude.{◌≡◌, length, map, option_map, IsTrue, IfOk};
 ghost use Rattle.cyc_syntax.specs.inside.TreeView.{place_of_span, view_name, expressions_of};
 ghost use Rattle.cyc_types.specs.declared.region.Region.TheVariants.{Heap};

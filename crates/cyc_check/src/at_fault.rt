@@ -53,7 +53,7 @@ fn scope_of<'p>(
 ///
 /// # Errors
 ///
-/// Returns an error if memory ran out before the body began.
+/// Returns an error if memory ran out before the check of the function's body began.
 pub fn scope_at_fault<'p>(
     alloc: Global,
     program: &'p Program,

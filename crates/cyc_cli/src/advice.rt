@@ -1,6 +1,6 @@
-//! This file has the texts of faults for users: the fault in words, and the advice on it. It also has the texts of invalid images and
-//! of runs that ended by an exception. `docs/codes.txt` is the table of codes; a test of the suite compares the texts in this file
-//! with that table.
+//! This file has the texts of faults for users: the fault in words, and the advice on it. The file also has the texts about invalid
+//! images and about runs that ended by an exception. `docs/codes.txt` is the table of codes; a test of the suite compares the texts
+//! in this file with that table.
 use crate::arguments::MOST_STEPS;
 use cyc_machine::constants::{MAX_CALLS, MAX_PAGES};
 use cyc_words::Code;
@@ -94,7 +94,7 @@ pub fn image_fault(number: u32) -> &'static str {
 /// The reason why a run ended before its program did, with the limit that the run reached. `Display` writes the reason in words.
 #[derive(Clone, Copy)]
 pub enum Ending {
-    /// No catch clause caught the exception with this number.
+    /// No catch clause caught the exception that this number identifies.
     Uncaught(u32),
     /// The run required more calls active at once than this limit allows.
     Calls(u32),

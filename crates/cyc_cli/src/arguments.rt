@@ -427,7 +427,7 @@ fn request_of<'a>(
             let text = file_of(command, matches, "text")?;
             Ok(Request::Pack { text })
         }
-        // The command-line parser accepts no command other than those handled above.
+        // The command-line parser accepts only the commands that the cases before this one handle.
         _ => Err(command.error(ErrorKind::InvalidSubcommand, "there is no such command")?),
     }
 }
@@ -449,8 +449,8 @@ fn request_in<'a>(
     request_of(alloc, &mut command, name, matches)
 }
 
-/// Returns the request of a command line, whose first word is the program's name. The error is a mistake in the words, or the text of
-/// the requested help.
+/// Returns the request of a command line, whose first word is the program's name. The error states a mistake in the words of the
+/// command line, or is the text of the requested help.
 pub fn read_request<'a>(alloc: Global, words: &'a [String]) -> Result<Request<'a>, Error>
     ensures { IfOk result IsWithinBudget }
 {

@@ -378,7 +378,8 @@ const CHECK: Word = Word {
     help: "Write nothing, and say which files are not laid out so",
 };
 
-// The prover unfolds a table at its use, so each of the two tables of commands is returned by a function of its own.
+// The prover unfolds a table at its use, so a function of its own returns each of the two tables of commands,
+// `FIRST_COMMANDS` and `FURTHER_COMMANDS`.
 fn first_commands() -> &'static [Plan] {
     FIRST_COMMANDS
 }

@@ -69,7 +69,7 @@ fn write_blank_bytes<W: fmt::Write>(bytes: &[u8], f: &mut fmt::Formatter<W>) -> 
     Ok(())
 }
 
-/// Returns true if the character with this number, beyond ASCII, is invisible, ends a line or changes the writing direction. The hidden
+/// Returns true if the character with this code point, beyond ASCII, is invisible, ends a line or changes the writing direction. The hidden
 /// characters are control characters, bidirectional marks and isolates, zero-width spaces and joiners, line separators, and tags.
 fn is_hidden(code: u32) -> bool
     ensures { result ≡ is_hidden code }
@@ -180,7 +180,7 @@ impl fmt::Display for Lines<'_> {
 /// The largest number of bytes of a file's name that are shown.
 const MOST_NAME: usize = 512;
 
-/// The name of a file for display: if the name is longer than `MOST_NAME`, its end after dots.
+/// The name of a file for display: a name longer than `MOST_NAME` bytes is shown as dots and the last bytes of the name.
 #[derive(Drop)]
 pub struct FileName<'a>(pub &'a [u8]);
 

@@ -182,7 +182,7 @@ pub struct Entry<'a> {
     pub code: Option<u32>,
     /// True for the first fault of the text, which is the fault that is proved correct.
     pub is_first: bool,
-    /// The name of the file.
+    /// The name of the source file that has the fault or warning.
     pub file: &'a str,
     pub range: Range,
     /// The description of the fault or warning, on one line.

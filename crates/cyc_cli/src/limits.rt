@@ -60,8 +60,8 @@ impl GivenLimits {
         }
     }
 
-    /// Returns the limits on pages and calls that are stored in a compiled image. If neither limit is given, no limits are stored; if
-    /// only one limit is given, the default is stored for the other limit.
+    /// Returns the limits on pages and calls that are stored in a compiled image. If neither the limit on pages nor that on calls is
+    /// given, no limits are stored; if only one is given, the default is stored for the other.
     pub fn carried(self) -> Option<(u32, u32)>
         ensures value { result ≡ carried_by self.pages self.calls }
         ensures allowed { IfSome result (λ limits. AreAllowed limits.0 limits.1) }
@@ -73,8 +73,8 @@ impl GivenLimits {
         Some((pages, self.calls.unwrap_or(DEFAULT_CALLS)))
     }
 
-    /// Returns the limits on pages and calls for a run of an image that contains the limits `note`. Each limit is the one given here,
-    /// or else the image's limit, or else the default, but no limit is above the limit in `caps`.
+    /// Returns the limits on pages and calls for a run of an image that contains the limits `note`. Each limit is the command line's,
+    /// or else the image's, or else the default, but no limit is above the limit in `caps`.
     pub fn of_run(self, caps: GivenLimits, note: Option<(u32, u32)>) -> Limits
         requires { IfSome note (λ limits. AreAllowed limits.0 limits.1) }
         ensures { result ≡ capped_by caps (limits_by self note) }

@@ -29,7 +29,8 @@ given_longer : (b : ℕ) (s : State) (output input : List ℕ) (old : State) →
 given_longer b s output [] old some = absurd (some refl)
 given_longer b s output (x ∷ input) old some = refl
 
--- An event of the machine has the same effect with the longer input, unless it requests the byte after the end of the given input.
+-- An event of the machine has the same effect with the input extended by one byte, unless it requests the byte after the end of
+-- the unextended input.
 reported_longer : (b : ℕ) (w : World) (event : Event) (s : State) → (event ≡ WantsByte → w.input ≢ []) → longer b (reported w event s) ≡ reported (longer b w) event s
 reported_longer b w Ran s within = refl
 reported_longer b w WantsByte s within = given_longer b s w.output w.input w.machine (within refl)

@@ -74,7 +74,7 @@ pub(crate) fn room_for(tree: &TypedTree) -> usize
 }
 
 /// Returns the optimised plain program of a typed program: small functions are inlined, recomputed expressions have slots of their own,
-/// and values known at compile time are propagated. Every returned fault is a fault of the lowering.
+/// and values that are determined at compile time are propagated. Every returned fault is a fault of the lowering.
 fn lower_improved(alloc: Global, program: &Flowed) -> Result<Plain, Fault>
     requires well_typed { IsWellTypedProgram (view_program program.now.tree) }
     requires small { program_weight (view_program program.now.tree) ≤ max_tokens }
@@ -155,7 +155,7 @@ pub fn compile_with_tokens(
 ///
 /// The front end runs first, and its faults are returned. An accepted program is rejected with `TooManyFunctions` at the name of the
 /// 4,097th function. A program with at most 4,096 functions is rejected with `FrameTooLarge` at the name of the first function whose
-/// frame may need more than 256 words. Lack of memory is another error.
+/// frame may need more than 256 words. If the compiler itself runs out of memory, that is another error.
 pub fn compile_with(alloc: Global, text: &[u8], note: Option<(u32, u32)>) -> Result<Vec<u8>, Fault>
     requires { AreAllowedIfAny note }
     // The result is an image that the machine can load and that does what the program of the text means. At every point of a run, the

@@ -66,8 +66,9 @@ pub fn images_print_alike()
 {}
 
 /// An image that does what a program means has one result over every store that satisfies the laws. Suppose a run over one store has ended;
-/// then every run of the image over another store that satisfies the laws ends in the same way within some number of instructions, with the
-/// same output and remaining input. The law does not bound the number of these instructions by the length of the first run.
+/// then every run of the image over another heap store that satisfies the laws of heap stores ends in the same way within some number of
+/// instructions, with the same output and remaining input. This law does not bound the number of these instructions by the length of the
+/// run over the first heap store.
 pub fn images_end_alike_over_every_store()
     ensures { (p : Program) (image : ImageContents) → DoesTheSame p image
         → (limits : Bounds) (one other : StoreState) (input : List ℕ) → AreAllowed limits.pages limits.calls → IsNew limits.pages one → IsNew limits.pages other

@@ -50,7 +50,7 @@ pub fn bounds_with_tokens(alloc: Global, text: &[u8]) -> Result<Bounded, Fault>
 
 /// Returns the bounds of what the runs of a text's program need.
 ///
-/// The front end runs first, and its faults are returned. Lack of memory is another error.
+/// The front end runs first, and its faults are returned. If the compiler itself runs out of memory, that is another error.
 pub fn bounds(alloc: Global, text: &[u8]) -> Result<Bounds, Fault>
     // The bound on calls is the length of the longest chain of calls from `main`: no run has more active calls. Hence no run ends for lack
     // of calls if its limit on calls is at least this bound (`calls_stay_within` of `cyc_bound`). If there is no bound on calls, then the

@@ -55,8 +55,8 @@ fn exceptions_of(alloc: Global, tree: &Tree) -> Result<Vec<Declared>, AllocError
     Ok(exceptions)
 }
 
-/// Returns the index of the mark (a source position that the lowering noted) that belongs to an instruction, given the mark of an earlier
-/// instruction.
+/// Returns the index of the mark (a source position that the lowering noted) for an instruction, given the index of the mark for an
+/// earlier instruction.
 fn mark_at(marks: &Marks, before: usize, number: usize) -> usize {
     let mut found = before;
     for next in before.saturating_add(1)..marks.marks.len() {
@@ -242,7 +242,7 @@ impl Sites {
     }
 }
 
-/// The data from which the source positions of the lines of a function's assembly code are computed, and these lines.
+/// The lines of a function's assembly code, and the data from which the source positions of these lines are computed.
 #[derive(Clone, Copy)]
 struct Lines<'a> {
     /// The index of the function in the program.
@@ -444,7 +444,7 @@ pub fn compile_with_places(
     drop(phases.tree);
     let image = build(alloc, &phases.program, note)?;
     let Ok(places) = places_of(alloc, &phases.program, exceptions) else {
-        // Every fault except lack of memory was reported before the image was made.
+        // Every fault except that the compiler itself runs out of memory was reported before the image was made.
         return Err(Fault::memory());
     };
     Ok(Placed {

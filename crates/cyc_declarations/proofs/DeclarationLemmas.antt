@@ -20,8 +20,8 @@ bodies_after texts tree =
     regrouped (run (rule_declarations (known_of texts tree) (before_all texts) tree)) (run (rule_main (known_of texts tree).main tree)) (program_known texts tree)
     (λ p. run (Part (rule_functions p tree) (λ fs. gives (program_of p tree fs))))
 
--- if the declarations of a program are well-formed, the code that collects them gives `program_known`, the program with all its
--- declarations
+-- if the declarations of a program are well-formed, the checker's code that collects them gives `program_known`, the program
+-- with all its declarations
 pub declared_is : (texts : List (List ℕ)) (tree : List Declaration) (p : Program) → collected_program texts tree ≡ Ok p → p ≡ program_known texts tree
 declared_is texts tree p e = go (run (rule_declarations (known_of texts tree) (before_all texts) tree)) (run (rule_main (known_of texts tree).main tree)) e
   where
@@ -30,6 +30,7 @@ declared_is texts tree p e = go (run (rule_declarations (known_of texts tree) (b
     go (Ok x) (Err f) e = absurd (cc)
     go (Err f) b e = absurd (cc)
 
--- the typed program that the code makes from its declarations and functions equals the typed program that the rules define
+-- the typed program that the checker's code makes from a program's declarations and functions equals the typed program
+-- that the typing rules define
 pub made_is : (texts : List (List ℕ)) (tree : List Declaration) (fs : List typed.Function) → program_made (known_of texts tree) tree fs ≡ program_of (program_known texts tree) tree fs
 made_is texts tree fs = refl

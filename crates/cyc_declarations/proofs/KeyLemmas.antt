@@ -1,5 +1,5 @@
--- The code computes the set of regions that have a key among a function's types. This set of regions gives the same
--- requirements and the same effect as the types themselves.
+-- The code computes the set of regions that have a key among a function's types. The set of regions with a key
+-- gives the same requirements and the same effect as the function's types themselves.
 use Rattle.std.proofs.Common.{◌≡◌, ℕ, zero, suc, ◌-◌, ◌<◌, ◌+◌, Bool, true, false, cond, not, ◌&&◌, List, [], ◌∷◌, ◌++◌, Option, Some, None, refl, sym, ap, ◌∙◌, arith}
 use Rattle.std.proofs.lemmas.List.{append_assoc}
 use Rattle.cyc_words.specs.declared.fault.Code.TheVariants as codes

@@ -184,8 +184,8 @@ impl Declared {
     }
 }
 
-/// Returns all declarations of a program, including the built-in ones. They are computed from the names of built-in regions, the names of
-/// structs and the number that identifies the name `main`.
+/// Returns all declarations of a program, including the built-in ones. The built-in declarations are computed from the names of built-in
+/// regions, the names of structs and the number that identifies the name `main`.
 pub(crate) fn program_declared(
     alloc: Global,
     names: &Names,

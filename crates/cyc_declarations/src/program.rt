@@ -73,7 +73,7 @@ fn struct_types(
     Ok(all)
 }
 
-/// Adds, for each declared exception, a flag that is true if the exception carries an int.
+/// Appends to the list, for each declared exception, a flag that is true if the exception carries an int.
 fn add_exceptions(all: &mut Vec<bool>, constructors: &[Constructor]) -> Result<(), AllocError>
     ensures { OnOk result (all.new.items ≡ all.old.items ++ map (λ (e : Exception). e.has_int) (exceptions_made (map view_constructor constructors.now))) }
 {
@@ -105,8 +105,8 @@ pub struct Parts {
     main: usize,
 }
 
-/// Returns the parts of a program other than the bodies of its functions. They are computed from the
-/// names of built-in regions, the names of structs and the number that identifies the name `main`.
+/// Returns the parts of a program other than the bodies of its functions, from its declarations. The
+/// names of the built-in regions, of the structs and of `main` are found in `known`.
 pub fn parts_of(
     alloc: Global,
     known: &Known,

@@ -32,7 +32,7 @@ pub fn members(parameters: &Parameters) -> &[Member]
 pub(crate) struct HeadTypes {
     parameters: Vec<Ty>,
     result: Option<Ty>,
-    /// The number of the function's region variables: the regions that its parameters name or omit.
+    /// How many region variables the function has: one for each region that its parameters name or omit.
     variables: usize,
 }
 

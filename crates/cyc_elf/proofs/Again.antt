@@ -149,7 +149,7 @@ bytes_end-length offset [] = omega arith
 bytes_end-length offset (s ∷ ss) =
     omega (arith, bytes_end-length (offset + padded (length s.bytes)) ss, ap length (flat_map-cons stored s ss), length-append (stored s) (flat_map stored ss), length-stored s)
 
--- If loadable headers satisfy their rules, the traversal of the header table finds all of them and continues after them.
+-- If loadable headers satisfy the rules of the format, the traversal of the header table finds all of them and continues after them.
 walk_loads : (file : List ℕ) (known : Option (ℕ × ℕ)) (hs rest : List ProgramHeader) → AllByRecursion (Keeps (length file)) hs → walk file known (hs ++ rest) ≡ with_front hs (walk file known rest)
 walk_loads file known [] rest keeps = refl
 walk_loads file known (h ∷ hs) rest keeps =
@@ -267,7 +267,7 @@ file_rules_again address count file h room =
 
 -- ---- the whole file
 
--- The sections of the file layout of an image, beginning with the table of program headers.
+-- The bytes of the table of program headers, and the other portions of the file layout of an image after its file header.
 abbrev table : ImageContents → List ℕ
 table i = flat_map program_header (laid_headers i)
 

@@ -88,7 +88,7 @@ stored {file} {h} {w} f =
     λ k d lt.
     subst (λ (g : ProgramHeader). g.offset + g.file_size ≤ length file) (get_or-map fields_of ls k d (fields_of d) lt) (kept k (fields_of d) (omega (arith, length-map ls fields_of)))
 
--- Returns the image that the program headers describe, with the headers as the code stores them.
+-- Returns the image that the program headers describe, with the headers as the reader's code stores them.
 abbrev described : List ℕ → FileHeader → table.Walk → ImageContents
 described file h w = record { entry = h.entry; segments = map (segment_of file) (map fields_of w.loads.items); note = w.note }
 

@@ -103,7 +103,7 @@ with_own : (known : Option (ℕ × ℕ)) (o : Option ElfFault) (before : List Pr
 with_own known (Some f) before h w = refl
 with_own known None before h w = with_load (is_load h) before h w
 
--- After a program header, the limits on pages and calls are known exactly if that header or an earlier one is a note with limits.
+-- Limits on pages and calls have been found after a program header exactly if that header or an earlier one is a note with limits.
 noted_again : (b any : Bool) (known : Option (ℕ × ℕ)) (limits : ℕ × ℕ) → is_some known ≡ any → is_some (cond b (Some limits) known) ≡ (any || (b || false))
 noted_again true true known limits same = refl
 noted_again true false known limits same = refl

@@ -99,7 +99,7 @@ kept_note file before h is keeps =
       limits = are_limits-true _ (not-false _ limits.0);
     }
 
--- If a program header has no fault, then the limits on pages and calls that are known after it are in their ranges.
+-- If a program header has no fault, then the limits on pages and calls that it or an earlier header states are in their allowed ranges.
 noted_fit : (file : List ℕ) (known : Option (ℕ × ℕ)) (h : ProgramHeader) → first_fault (own_rules file (is_some known) h) ≡ None → IfSome known AreLimits → IfSome (noted file known h) AreLimits
 noted_fit file known h keeps fit =
     elim (cases_Bool (is_note file h)) [

@@ -60,7 +60,8 @@ impl ProgramHeader {
         requires { length segment.now.bytes.items ≤ segment.now.size }
         ensures { fields_of result ≡ header_of offset (segment_contents segment.now) }
     {
-        // The code reads the size before the header is built, because that read makes the bound on the number of bytes known to the proof.
+        // The code reads the segment's size before it builds the program header. This read makes a bound on the number of the segment's
+        // bytes known to the proof.
         let _size = segment.size;
         ProgramHeader {
             kind: LOAD,

@@ -25,7 +25,8 @@ pub struct Walk {
     pub fault: Option<ElfFault>,
 }
 
-/// Returns the limits on pages and calls known after a valid program header, given those known before it.
+/// Returns the limits on pages and calls that a valid program header states if it is a note with limits,
+/// otherwise the limits that earlier headers stated.
 fn noted(file: &[u8], header: ProgramHeader, known: Option<(u32, u32)>) -> Option<(u32, u32)>
     requires { is_note file.now (fields_of header) ≡ true → header.offset + note_size ≤ length file.now }
     ensures { result ≡ noted file.now known (fields_of header) }

@@ -293,7 +293,7 @@ executes_of start old now count x peaks machine p = record {
   written = p.printed;
 }
 
--- If the reader and the writer are not used afterwards, the statement `Executes` about the instructions executed so far stays true.
+-- If the reader and the writer are not used after the executed instructions, the statement `Executes` about these instructions stays true.
 executes_kept : (start : List ℕ → World) (old now new : Devices) (count : ℕ) (w : World) → Executes start old now count w → Rests now new → Executes start old new count w
 executes_kept start old now new count w x (kept, silent) = record {
   input = x.input;
@@ -303,7 +303,7 @@ executes_kept start old now new count w x (kept, silent) = record {
   written = Appends-kept old.written now.written new.written w.output x.written silent;
 }
 
--- Returns the report of a run that stops in this way.
+-- Returns the report of a run that stops for the reason that the `Stop` value states.
 abbrev pub report_of : Stop → (count : ℕ) → Exchanged → (peaks : Option Peaks) → State → Report
 report_of stop count x peaks machine = record {
   stop = stop;

@@ -1,8 +1,8 @@
 //! Replays a run up to its stop, to find the source position at which it stopped and the active calls.
 //!
 //! All runs of an image on the same input are equal. The machine runs at full speed until shortly before the stop, and then one
-//! instruction at a time. The result is right for images made by this compiler: all frames have the same size, and the return address of a
-//! call is in register 31 or in the frame's word where the function's entry stores it.
+//! instruction at a time. The result of a replay is right for images made by this compiler: all frames have the same size, and the return
+//! address of a call is in register 31 or in the frame's word where the function's entry stores it.
 
 use crate::report::RunFault;
 use cyc_elf::read_outline;
@@ -32,9 +32,9 @@ const PUSH_FRAME: u32 = 0x27bd_fc00;
 /// The machine word of `addiu $29, $29, 1024`, with which a function removes its frame.
 const POP_FRAME: u32 = 0x27bd_0400;
 
-/// The machine word of `lw $31, 8($25)`, the first instruction of a throw to a handler. This instruction replaces the return
-/// address in register 31 by the address of the handler's code. The instruction after it replaces the stack pointer, register
-/// 29, by that of the call with the handler.
+/// The machine word of `lw $31, 8($25)`, the first instruction of a throw to a handler. The first instruction of a throw
+/// replaces the return address in register 31 by the address of the handler's code. The second instruction of a throw
+/// replaces the stack pointer, register 29, by that of the call with the handler.
 const THROW: u32 = 0x8f3f_0008;
 
 /// The number of machine words of a throw to a handler: `lw $31, 8($25)`, `lw $29, 4($25)`, `jr $31` and `lw $25, 0($25)`.
@@ -52,8 +52,8 @@ const MOST_BETWEEN: u32 = 1024;
 /// The machine-code address at which a run stopped, with the addresses of the active calls.
 #[derive(Drop)]
 pub struct Trail {
-    /// The address of the instruction that determines the reported position: the one at the stop, or the test or the throw that caused
-    /// it. For an exception that was passed on, or is on its way to a handler, this address is that of the first throw.
+    /// The address of the instruction that determines the reported source position: the one at the stop, or the test or the throw that
+    /// caused it. For an exception that was passed on, or is on its way to a handler, this address is that of the first throw.
     pub address: u32,
     /// The addresses of the jumps that made the active calls, innermost first, except that of `main`; at most 32.
     pub calls: Vec<u32>,
@@ -61,7 +61,7 @@ pub struct Trail {
     pub others: u32,
 }
 
-/// Returns the construct of the source program, or the code added by the compiler, to which the machine word at an address belongs.
+/// Returns the construct of the source program, or the code added by the compiler, for which the machine word at an address was made.
 fn source_at(stretches: &[Stretch], address: u32) -> Option<Source> {
     Some(stretch_at(stretches, address)?.source)
 }
@@ -117,7 +117,7 @@ fn change_by(word: u32) -> Option<Change> {
     }
 }
 
-/// Returns true if the instruction at an address belongs to a throw, but is not its first one, so that the exception is on its way
+/// Returns true if the instruction at an address is part of a throw, but is not its first one, so that the exception is on its way
 /// to its handler.
 fn is_leaving<S: Store + Drop>(machine: &Machine<S>, address: u32) -> bool {
     for back in 1..THROW_WORDS {
@@ -156,7 +156,7 @@ impl Map<'_> {
             }
             let word = machine.word(before).unwrap_or(0);
             if let Some(change) = change_by(word) {
-                // A stack frame made in the delay slot of a jump belonged to the function to which the jump went, which has returned.
+                // A stack frame made in the delay slot of a jump was the frame of the function to which the jump went, which has returned.
                 let is_in_slot = has_slot(machine.word(before.wrapping_sub(4)).unwrap_or(0));
                 return if is_in_slot { Change::Nothing } else { change };
             }

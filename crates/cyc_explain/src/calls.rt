@@ -96,7 +96,7 @@ fn region_outside(parameter: &Ty, given: &Ty, variable: Region) -> Option<Region
 }
 
 /// Returns the region, in the types of a call's arguments, that corresponds to a region variable in the parameter types.
-/// If the argument types contain no such region, the result is the heap.
+/// If no region in the argument types corresponds to the region variable, the result is the heap.
 fn region_given(parameters: &[Ty], values: &[ValueType], variable: Region) -> Region {
     let mut found = None;
     for i in 0..parameters.len() {

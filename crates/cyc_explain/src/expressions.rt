@@ -159,7 +159,8 @@ fn type_after(scope: &Scope<'_>, pointer: &Option<ValueType>, field: Option<Iden
     }
 }
 
-/// Continues from the pointer type found so far to the type of its target, or of a field of the target, and explains a fault in reading it.
+/// Continues from the pointer type found so far to the type of its target, or of a field of the target. Explains a fault in reading this
+/// target or field.
 fn explain_after(teller: &mut Teller, scope: &Scope<'_>, start: Span, field: Option<Ident>) {
     let following = type_after(scope, &teller.notes.found, field);
     if teller.find_type(following) {

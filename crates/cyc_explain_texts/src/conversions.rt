@@ -389,7 +389,7 @@ fn better_on_regions(notes: &Notes, lead: Message, more: Message) -> Message {
     }
 }
 
-/// Returns the advice about a new object that is used as an int.
+/// Returns the advice about an object made by `new` that is used as an int.
 fn better_on_made(lead: Message) -> Message {
     match lead {
         Message::LocalType | Message::VariableType => Message::PointerMade,

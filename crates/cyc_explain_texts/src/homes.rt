@@ -63,7 +63,7 @@ impl Homes {
         found
     }
 
-    /// Records where the region with the next number comes from.
+    /// Records where the region with the next index comes from.
     pub fn add(&mut self, name: Option<Ident>, span: Span, origin: Origin) {
         let name = match name {
             Some(name) => Some(name.name.number),

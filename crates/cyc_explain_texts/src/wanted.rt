@@ -15,7 +15,7 @@ use cyc_words::{Code, Span};
 pub enum Wanted {
     /// The value has no requirement of its own: either there is none, or the requirement also depends on other values or types.
     Nothing,
-    /// The value must have a type, because it initialises a new object.
+    /// The value must have a type, because it initialises an object made by `new`.
     Content,
     Int,
     /// The value is the operand of a unary minus.

@@ -40,11 +40,11 @@ pub struct Notes {
     pub found: Option<ValueType>,
     /// The message that tells for which purpose the value found is used.
     pub lead: Message,
-    /// The variable whose value is the value found, if any; and true if the value is a newly made object.
+    /// The variable whose value is the value found, if any; and true if the value found is an object just made by `new`.
     pub variable: usize,
     pub is_new: bool,
     pub wanted: Option<ValueType>,
-    /// Two regions of the current function, and two regions of the called function.
+    /// Two regions of the current function that a message mentions, and two regions of the called function that it mentions.
     pub regions: (Region, Region),
     pub their_regions: (Region, Region),
     /// The required count and the found count of something (such as arguments), for a message that states both counts.
@@ -317,8 +317,8 @@ impl Words {
         }
     }
 
-    /// Writes the struct type to be made, in the notation after `new`: the required type if the value is a newly made object, or
-    /// else the type found.
+    /// Writes the struct type to be made, in the notation after `new`: the required type if the value is made by `new`, or else
+    /// the type found.
     fn put_made(&mut self, notes: &Notes) {
         let made = if notes.is_new {
             &notes.wanted

@@ -1,5 +1,5 @@
--- Lemmas about a list that the code visits in a loop: the results for the first elements and for the
--- remaining elements give the result for the list.
+-- Lemmas about a list that the checker's code visits in a loop: the results for the first elements
+-- and for the remaining elements give the result for the list.
 use Rattle.std.proofs.Common.{◌≡◌, List, [], ◌∷◌, ◌++◌, Ok, Err, refl, sym, ap}
 use Rattle.cyc_types.specs.Rules.{Checked, and_then}
 

@@ -1,6 +1,6 @@
 //! Checks expressions by a recursive traversal. The traversal checks the subexpressions of an expression in order of evaluation, and
-//! then the requirements of the expression's own form (`cyc_calls`, `cyc_typing`). Each operand is checked once: as a used value, as
-//! a peek (a read that moves no unique pointer), or as an lvalue.
+//! then the requirements of the expression's own form (`cyc_calls`, `cyc_typing`). Each operand is checked once: as a value whose
+//! unique pointer is moved, as a peek (a read that moves no unique pointer), or as an lvalue.
 ghost use Rattle.std.specs.Prelude.{◌≡◌, ◌≢◌, [], ◌∷◌, map, option_map, Ok, OnOk, IfErr};
 ghost use Rattle.cyc_words.specs.declared.fault.Code.TheVariants as codes;
 ghost use Rattle.cyc_syntax.specs.inside.TreeView.{place_of_span, view_name, view_initial, view_expression, expressions_of, postfixes_of, operations_of};
@@ -216,7 +216,8 @@ pub fn check_looked(scope: &mut Scope<'_>, expression: &Expr) -> Result<Box<type
     }
 }
 
-/// Checks an operand as a peek (a read that moves no unique pointer) if `is_looking` is true, otherwise as a used value.
+/// Checks an operand as a peek (a read that moves no unique pointer) if `is_looking` is true, otherwise as a value whose
+/// unique pointer is moved.
 #[cycle(expression)]
 fn check_operand(
     scope: &mut Scope<'_>,
@@ -234,7 +235,7 @@ fn check_operand(
     }
 }
 
-/// Checks a list of expressions, each as a used value.
+/// Checks a list of expressions, each as a value that is used: a unique pointer in a variable is moved out of the variable.
 #[cycle(expression)]
 fn check_values(scope: &mut Scope<'_>, expressions: &[Expr]) -> Result<Vec<typed::Converted>, Stop>
     ensures gives { Gives (λ v. map value_in v.items) result (run (rule_all scope.old (expressions_of expressions.now))) }

@@ -31,7 +31,7 @@ same_each (suc n) f g each =
     ap (λ a. a ∷ each_below n (λ i. f (suc i))) (each 0 (omega arith))
     ∙ ap (λ as'. g 0 ∷ as') (same_each n (λ i. f (suc i)) (λ i. g (suc i)) (λ i below. each (suc i) (omega (arith, below))))
 
--- If the value of a function at one number is changed, then in the list of the function's values only the element at this index changes.
+-- If two functions differ only at one number, then the lists of their values differ only in the element at this index.
 pub set_each : (n : ℕ) (f g : ℕ → Fullness) (i : ℕ) (a : Fullness) → ((j : ℕ) → j < n → j ≢ i → g j ≡ f j) → (i < n → g i ≡ a) → each_below n g ≡ set (each_below n f) i a
 set_each zero f g i a other same = refl
 set_each (suc n) f g zero a other same =
@@ -276,8 +276,8 @@ met_all ms os whole i n d e k =
 abbrev CoverEach : List Marks → List Marks → Type 0
 CoverEach ms os = (p : ℕ) → p < length ms → p < length os → Covers (marks_at ms p) (marks_at os p)
 
--- `LacksBelow` says that the word `w` collects the missing bits of the first `n` words: if a bit of
--- `w` is 0, then this bit is missing in none of them.
+-- `LacksBelow` compares the first `n` words of bits of two tables. The word `w` collects the bits that are set in the second table but not
+-- in the first: a bit that is 0 in `w` is such a bit in none of these words.
 abbrev pub LacksBelow : List Marks → List Marks → (word : ℕ) → ℕ → Type 0
 LacksBelow ms os w n = (i : ℕ) → bit_at w i ≡ 0 → (p : ℕ) → p < n → bit_at (missing (marks_at ms p) (marks_at os p)) i ≡ 0
 
@@ -290,7 +290,8 @@ lacks_more ms os w n r is h i none p under = elim (cases_eq p n) [
   | inr apart ↦ h i (omega (arith, bit_at_or w r i, none)) p (omega (arith, under, apart))
 ]
 
--- If the word of missing bits is zero after all words are visited, then no bit is missing in any word.
+-- A word collects the bits that are set in the second of two tables but not in the first. If this word
+-- is zero after all words of the tables are compared, then the first table has all bits of the second.
 pub lacks_none : (ms os : List Marks) (w n : ℕ) → w ≡ 0 → min (length ms) (length os) ≤ n → LacksBelow ms os w n → CoverEach ms os
 lacks_none ms os w n none past h p below less i = h i (ap (λ (v : ℕ). bit_at v i) none ∙ bit_at-zero i) p (omega (arith, below, less, past))
 
@@ -312,7 +313,7 @@ length_known t n e = length-each_below (table_length t) (known_at t.marks.items)
 
 -- ---- emptied locals
 
--- Returns the new flow state of a local: empty if the given flag is true and the local is not lent, otherwise the old state.
+-- Returns the new flow state of a local: empty if the flag is true and the local is not lent, otherwise the old state.
 abbrev emptied_if : Bool → Fullness → Fullness
 emptied_if true a = if is_locked a then a else Vacant
 emptied_if false a = a

@@ -33,8 +33,8 @@ pub lowered_append : (cs ds : List Change) (f : State) → lowered (cs ++ ds) f 
 lowered_append [] ds f = refl
 lowered_append (c ∷ cs) ds f = lowered_append cs ds (with_fullness (lower (fullness f c.number) (view_fullness c.before)) f c.number)
 
--- Suppose that a list of recorded states lowers a flow state as a list of changes requires. If one more changed
--- local is recorded with its present state, the longer lists still agree.
+-- Suppose that lowering (making emptier) a flow state by a list of recorded states has the same effect as lowering the changed locals to
+-- their states in `g`. If one more changed local is recorded with its present state, then the effects of the longer lists are still equal.
 pub noted_now : (g : State) (vs : List Change) (v c : Change) (cs : List Change) (f : State) → v.number ≡ c.number → view_fullness v.before ≡ fullness g c.number
     → lowered_to g cs (lowered (vs ++ v ∷ []) f) ≡ lowered_to g (c ∷ cs) (lowered vs f)
 noted_now g vs v c cs f n e =

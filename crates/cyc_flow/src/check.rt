@@ -27,7 +27,7 @@ use std::alloc::{AllocError, Global};
 /// head. A catch clause relies on no local that the body of its `try` may have emptied. No path through a function with a result reaches
 /// the function's end.
 ///
-/// Returns the first flow fault, in execution order. Any copy of a flow state may fail for lack of memory.
+/// Returns the first flow fault, in execution order. Any copy of a flow state may fail because the compiler itself runs out of memory.
 pub fn flow(alloc: Global, tree: TypedTree) -> Result<Flowed, Fault>
     // A typed tree that `flow` accepts satisfies the flow rules and is returned. For a rejected tree, the rules have the returned fault.
     ensures decides { Decides (λ (_ : Unit {0}). IsAllowedProgram (view_program tree)) (λ _ v. v.tree ≡ tree) (IsStoppedProgram (view_program tree))
@@ -49,7 +49,7 @@ pub struct Diagnosis {
 }
 
 /// Returns the first fault of a typed tree that `flow` rejects, for a diagnostic. Returns `None` if the tree satisfies the flow rules, or
-/// if memory runs out.
+/// if the compiler itself runs out of memory.
 pub fn diagnose(alloc: Global, tree: &TypedTree) -> Option<Diagnosis>
     ensures { IfSome result (λ e. run (rule_program (view_program tree.now)) ≡ Err e.fault) }
 {

@@ -56,7 +56,8 @@ pub(crate) fn peek_after(place: &Dereference) -> Option<usize>
     }
 }
 
-/// Returns the locals that were peeked at (read without a move) and whose values are not yet used, and one more local if it is given.
+/// Returns the locals that were peeked at (read without a move) and whose values are not yet used, extended by the local in the last
+/// argument, if any.
 pub(crate) fn and_peeked(
     alloc: Global,
     waiting: &[usize],
@@ -138,7 +139,7 @@ impl Evaluation {
         Ok(())
     }
 
-    /// Checks an assignment of a value of this type to a variable.
+    /// Checks an assignment to a variable, given the type of the assigned value.
     fn assign(
         &mut self,
         waiting: &[usize],

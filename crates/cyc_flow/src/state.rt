@@ -85,7 +85,7 @@ impl State {
         }
     }
 
-    /// Returns the flow state in which each of these locals is full.
+    /// Returns the flow state in which each local of the list `numbers` is full.
     #[tactic(auto, using(crate::proofs::States::each_unreached))]
     pub(crate) fn filled(self, numbers: &[usize]) -> State
         ensures { view_state result ≡ with_each Full numbers.now (view_state self) }
@@ -99,7 +99,7 @@ impl State {
         }
     }
 
-    /// Returns the flow state in which each of these locals is empty, unless the local is lent.
+    /// Returns the flow state in which each touched local (consumed, assigned or locked) is empty, unless the local is lent.
     #[tactic(auto, using(crate::proofs::States::emptied_unreached))]
     pub(crate) fn emptied(self, touched: &Touched) -> State
         ensures { view_state result ≡ emptied touched.now.numbers.list (view_state self) }
@@ -127,7 +127,7 @@ impl State {
         }
     }
 
-    /// Returns true if no local is emptier in this flow state than in the other one.
+    /// Returns true if no local is emptier in this flow state than in the flow state `other`.
     pub(crate) fn is_at_least(&self, other: &State) -> bool
         ensures { result ≡ is_at_least (view_state self.now) (view_state other.now) }
     {

@@ -376,7 +376,7 @@ impl Walk {
         Ok(following)
     }
 
-    /// Checks a catch clause that begins with this flow state. The int of the exception, if it has one, is stored in a local.
+    /// Checks a catch clause, given the flow state at its beginning. The int of the exception, if it has one, is stored in a local.
     #[cycle(statement)]
     fn check_clause(
         &mut self,

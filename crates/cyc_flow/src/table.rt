@@ -136,7 +136,7 @@ impl Table {
         }
     }
 
-    /// Sets the state of each of these locals to full.
+    /// Sets the state of each local in the list `numbers` to full.
     #[tactic(auto, using(std::proofs::lemmas::List::drop_more))]
     pub(crate) fn fill_each(&mut self, numbers: &[usize])
         ensures { Reached (view_table self.new) ≡ with_each Full numbers.now (Reached (view_table self.old)) }
@@ -182,8 +182,9 @@ impl Table {
         self
     }
 
-    /// Returns true if no local is emptier in this table than in the other one. If a bit of the other table is missing in this table, the
-    /// locals are compared one by one. The comparison one by one happens at most once in a check, since a missing bit is then a fault.
+    /// Returns true if no local is emptier in this table than in the table `other`. If a bit of `other` is missing in this table, the
+    /// locals are compared one by one. The comparison one by one is rare, since a missing bit usually is a fault, with which the check
+    /// ends.
     pub(crate) fn is_as_full(&self, other: &Table) -> bool
         ensures { result ≡ are_as_full (view_table self.now) (view_table other.now) }
     {

@@ -153,7 +153,7 @@ impl<'t> Layout<'t> {
         Break::space(inside)
     }
 
-    /// Returns the gap before a statement, or before the end of a body.
+    /// Returns the gap before a statement, or before the closing brace of a construct that contains statements, fields or catch clauses.
     fn break_before_statement(&mut self, number: usize) -> Break {
         let kind = self.kind(number);
         let Some(frame) = self.frames.last() else {
@@ -176,7 +176,7 @@ impl<'t> Layout<'t> {
         }
     }
 
-    /// Returns the gap before the closing brace of a body.
+    /// Returns the gap before the closing brace of a construct that contains statements, fields or catch clauses.
     fn break_before_end(&self, frame: &Frame) -> Break {
         let kind = if frame.is_one_line {
             BreakKind::Space

@@ -1,4 +1,5 @@
-//! The open constructs at a position of a text: brackets, bodies, and conditions whose statement has not begun.
+//! The open constructs at a position of a text: brackets, braces around statements, fields or catch clauses,
+//! and conditions whose statement has not begun.
 use std::alloc::Global;
 
 /// An open construct.
@@ -194,7 +195,8 @@ impl Frames {
         }
     }
 
-    /// Closes a parenthesis and everything opened in it, but no open brace, and returns the parenthesis.
+    /// Closes the innermost open parenthesis and all constructs opened in it, but no open brace, and returns the record of this
+    /// parenthesis.
     pub(crate) fn close_parenthesis(&mut self) -> Option<Frame> {
         for _ in 0..self.all.len() {
             match self.last() {
@@ -224,7 +226,7 @@ impl Frames {
         }
     }
 
-    /// Closes braces and everything opened in them, and returns the braces.
+    /// Closes the innermost open braces and all constructs opened in them, and returns the record of the construct that these braces form.
     pub(crate) fn close_braces(&mut self) -> Option<Frame> {
         for _ in 0..self.all.len() {
             match self.all.pop() {

@@ -10,7 +10,8 @@ use std::alloc::Global;
 /// The position of the next token relative to statements.
 #[derive(Clone, Copy, Debug, PartialEq, Eq)]
 pub(crate) enum At {
-    /// The next token begins a statement, a declaration, a field or a catch clause, or is at the end of a body.
+    /// The next token begins a statement, a declaration, a field or a catch clause, or is at the end of braces
+    /// around statements, fields or catch clauses.
     Statement,
     /// The next token is after a condition, before the statement that the condition controls.
     Nested,

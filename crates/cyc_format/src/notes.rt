@@ -187,7 +187,7 @@ impl<'t> Layout<'t> {
         }
     }
 
-    /// Returns true if the braces opened here are on one line: a list of exceptions, or one catch clause with one statement.
+    /// Returns true if the braces that this token opens are on one line: a list of exceptions, or one catch clause with one statement.
     fn stands_on_one_line(&self, before: &Before, token: Token) -> bool {
         if !matches!(before.brace, FrameKind::Exceptions | FrameKind::Clauses) {
             return false;

@@ -16,11 +16,12 @@ pub struct Frame {
     /// True if the function saves its return address in the frame at its entry. A function that does not save its return address never
     /// overwrites the return address register.
     pub saves: bool,
-    /// The word of the frame for the first saved callee-saved register. The words for the other saved registers follow in order.
+    /// The word of the frame for the first saved callee-saved register. The words for the other saved registers follow the word
+    /// for the first one in order.
     pub first_saved: usize,
     /// The number of callee-saved registers that the function saves.
     pub saved: usize,
-    /// The word of the frame for the function's slot 0. The words for the other slots follow in order.
+    /// The word of the frame for the function's slot 0. The words for the function's other slots follow the word for slot 0 in order.
     pub first_slot: usize,
     /// The number of parameters; the first slots of a function are its parameters.
     pub parameters: usize,

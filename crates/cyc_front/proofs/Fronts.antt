@@ -113,7 +113,7 @@ HasPhases p v = HasProgram p v.program
 abbrev pub IsAnswered : List ℕ → Result Flowed Fault → Type 0
 IsAnswered = IsAnsweredBy HasProgram
 
--- If the front end rejects a text, the same fault is returned by both of its functions, whose accepted results have different forms.
+-- If one function of the front end may reject a text with a fault, so may any other function whose accepted results have a different form.
 pub refused_by_both : {X Y A : Type 0} {Accepted : A → Type 0} {Refused Faulty : Fault → Type 0} (Gives : A → X → Type 0) (Other : A → Y → Type 0) (f : Fault)
     → Decides Accepted Gives Refused Faulty (Err f) → Decides Accepted Other Refused Faulty (Err f)
 refused_by_both Gives Other f d = record { accepted = tt; refused = d.refused; accepts = d.accepts; refuses = d.refuses }

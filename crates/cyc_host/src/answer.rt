@@ -20,7 +20,7 @@ pub enum Answer {
     Refused(Fault),
     /// The file is not an image that can be run or whose instructions can be listed; the number identifies the reason.
     BadImage(u32),
-    /// The run ended with an uncaught exception, given by its number and its value.
+    /// The run ended with an uncaught exception, given by the number that identifies the exception and by its int.
     Uncaught(u32, i32),
     /// The run ended because the store had no free pages, or because the stack had no space for another call.
     Full,

@@ -30,7 +30,8 @@ pub struct Screen<W: Write + Drop> {
 impl<W: Write + Drop> Screen<W> {
     ghost use Rattle.cyc_host.specs.inside.Console.{screen_written, screen_held, screen_is_stuck};
 
-    /// Returns a screen with an empty buffer; with `by_lines` each line is flushed when it ends. The only error is lack of memory.
+    /// Returns a screen with an empty buffer; with `by_lines` each line is flushed when it ends. The only error is that memory for
+    /// the buffer cannot be allocated.
     pub fn new(alloc: Global, output: W, by_lines: bool) -> io::Result<Self>
         ensures { IfOk result (λ s. Keeps (W.contents output) (screen_written W.contents s)) }
     {
@@ -196,7 +197,7 @@ impl<R: Read + Drop> Keyboard<R> {
     ghost use Rattle.cyc_host.specs.inside.Console.{keyboard_remaining};
 
     /// Returns a keyboard from which nothing was requested yet; a reader that never blocks (`may_wait` is false) is read one byte at a
-    /// time. The constructor fails if memory runs out.
+    /// time. The constructor fails if memory for the buffer cannot be allocated.
     pub fn new(alloc: Global, input: R, may_wait: bool) -> io::Result<Self>
         ensures { IfOk result (λ k. Keeps (R.remaining input) (keyboard_remaining R.remaining k)) }
     {

@@ -320,8 +320,8 @@ fn fill(file: &mut File, bytes: &[u8]) -> io::Result<()> {
     Ok(())
 }
 
-/// Returns true if a file of this length at this name would exceed the system's limit of file sizes: the system kills a process that
-/// writes beyond this limit.
+/// Returns true if a file of `length` bytes with the name `path` would exceed the system's limit of file sizes: the system kills a
+/// process that writes beyond this limit.
 fn is_too_long<R: Files>(rt: &R, path: &str, length: usize) -> bool {
     let is_file = match fs::metadata(rt, path) {
         Ok(metadata) => metadata.is_file(),
@@ -371,7 +371,7 @@ fn write_beside<R: Files>(
     result
 }
 
-/// Writes bytes directly to the entry of this name. The file is created, or truncated first.
+/// Writes bytes directly to the file, device or pipe with the name `path`. A file is created, or truncated first.
 fn write_there<R: Files<File = File>>(rt: &R, path: &str, bytes: &[u8]) -> io::Result<()> {
     let mut file = fs::create(rt, path)?;
     let result = fill(&mut file, bytes);

@@ -15,8 +15,8 @@ AreAllowedIfAny note = IfSome note (λ limits. AreAllowed limits.0 limits.1)
 abbrev pub Carries : List ℕ → Option (ℕ × ℕ) → Type 0
 Carries file note = (image : ImageContents) × (reading file ≡ Ok image) × (image.note ≡ note)
 
--- Says that the result of reading an image's limits agrees with `read`, the meaning of the image file. The result is the limits, or the
--- fault of the image file, unless memory ran out.
+-- Says that the result of reading an image's limits agrees with `read`, the meaning of the image file. The result of reading an image's
+-- limits is the limits, or the fault of the image file, unless memory ran out.
 abbrev pub Notes : Result (Option (ℕ × ℕ)) ElfFault → Result ImageContents ElfFault → Type 0
 Notes (Ok note) read = (image : ImageContents) × (read ≡ Ok image) × (image.note ≡ note)
 Notes (Err elf.Memory) read = Unit {0}

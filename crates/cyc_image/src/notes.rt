@@ -8,7 +8,7 @@ use cyc_elf::{ElfFault, read_outline};
 use std::alloc::Global;
 
 /// Returns the limits on pages and calls that an image contains for its runs, or `None` if it contains no limits. The error is the first
-/// violated rule of the image format.
+/// rule of the image format that the image violates.
 pub fn note_of(alloc: Global, image: &[u8]) -> Result<Option<(u32, u32)>, ElfFault>
     // The result is the limits of the image in these bytes, or the first rule of the image format that the bytes violate.
     ensures exact { Notes result (reading image.now) }

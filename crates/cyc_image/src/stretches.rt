@@ -24,18 +24,18 @@ pub struct Site {
     pub span: Span,
 }
 
-/// A sequence of consecutive machine words of an image that come from the same span of the program. It begins at this
-/// address and ends where the next sequence begins.
+/// A sequence of consecutive machine words of an image that come from the same span of the program. The sequence
+/// begins at the address in its field `address` and ends where the next sequence begins.
 #[derive(Clone, Copy, Debug, PartialEq, Eq)]
 pub struct Stretch {
     pub address: u32,
     pub source: Source,
-    /// The inlined call from which the words come, if any.
+    /// The inlined call from which the machine words of this sequence come, if any.
     pub site: Option<Site>,
 }
 
 impl Stretch {
-    /// Returns the function in whose stack frame these machine words are executed.
+    /// Returns the index of the function in whose stack frame the code in this sequence of machine words is executed.
     pub fn frame_function(&self) -> Option<usize> {
         match (self.site, self.source) {
             (Some(site), _) => Some(site.function),

@@ -177,7 +177,8 @@ pub fn run_made(
     }
 }
 
-/// Writes the report of a run to the report file. If the writing succeeds, the answer to the command does not change.
+/// Writes the report of a run to the report file. If the report file is written without a failure, the answer to the
+/// command does not change.
 fn write_report(
     rt: &HostRuntime,
     path: &str,
@@ -193,8 +194,8 @@ fn write_report(
     }
 }
 
-/// Writes the report about the outcome of a run to the report file, if the user names one. If the writing succeeds, the answer to the
-/// command does not change.
+/// Writes the report about the outcome of a run to the report file, if the user names one. If the report file is written without a
+/// failure, the answer to the command does not change.
 pub fn write_outcome(
     rt: &HostRuntime,
     report: Option<&str>,

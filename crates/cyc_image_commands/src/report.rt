@@ -44,8 +44,8 @@ impl fmt::Display for Int {
     }
 }
 
-/// A text that is written as a JSON string in quotes, or as `null` if there is no text. None of these texts
-/// contains a character that JSON escapes.
+/// A text that is written as a JSON string in quotes, or as `null` if there is no text. None of the texts
+/// in a report contains a character that JSON escapes.
 #[derive(Drop)]
 struct Words(Option<&'static str>);
 

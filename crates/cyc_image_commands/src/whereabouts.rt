@@ -45,13 +45,13 @@ impl Whereabouts<'_> {
         }
     }
 
-    /// Writes, at the beginning of a line of the call stack, the source position.
+    /// Writes the source position with which a line of the printed call stack begins.
     fn write_place<W: fmt::Write>(&self, span: Span, f: &mut fmt::Formatter<W>) -> fmt::Result {
         let (file, line) = self.table.home_of(span.line);
         write!(f, "{}:{line}:{}: ", FileName(file), span.column)
     }
 
-    /// Writes, at the end of a line of the call stack, the name of the function.
+    /// Writes the name of the function with which a line of the printed call stack ends.
     fn write_function<W: fmt::Write>(
         &self,
         function: usize,

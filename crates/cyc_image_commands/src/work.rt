@@ -40,7 +40,7 @@ pub fn limits_of_run(
 pub struct Manner {
     pub store: StoreKind,
     /// True if the run counts the maximal numbers of active calls and used pages. Only the heap implementation as a pool
-    /// of pages supports this.
+    /// of pages supports the count of these maxima.
     pub counting: bool,
 }
 

@@ -1,5 +1,5 @@
--- The calls chosen for inlining, and the instructions chosen for duplication, satisfy the conditions for these
--- changes. Each number in an instruction of the code fits a machine word.
+-- The calls chosen for inlining, and the instructions chosen for duplication, satisfy the conditions on such
+-- calls and instructions. Each number in an instruction of the program's code fits a machine word.
 use Rattle.std.proofs.Common.{◌≡◌, ℕ, zero, suc, ◌+◌, ◌^◌, ◌<◌, ◌≤◌, Bool, true, false, List, [], ◌∷◌, ◌++◌, length, Option, Some, None, refl, sym, ap, subst, ◌∙◌, arith, inl, inr}
 use Rattle.std.specs.Prelude.{◌⊎◌, ◌==◌, nat_lt, nat_le, if◌then◌else◌, not, ◌&&◌, filter, slice_get, sum_by}
 use Rattle.std.specs.List.{AllByRecursion}
@@ -296,7 +296,7 @@ no_calls program r chosen slots none same = record {
   frame = inl same;
 }
 
--- Each positive number in a list that was extended by one number is at its index in the old list, or is the added number.
+-- In a list to which one number was appended, each positive number is the number at this index of the old list, or is the appended number.
 pub last_line : (lines : List ℕ) (line : ℕ) (k : ℕ) → 0 < place_in (lines ++ line ∷ []) k
     → (place_in (lines ++ line ∷ []) k ≡ place_in lines k) ⊎ ((k ≡ length lines) × (place_in (lines ++ line ∷ []) k ≡ line))
 last_line [] line zero is = inr (refl, refl)
@@ -331,7 +331,8 @@ length_more old new need index long by =
     let longer : length new.chosen.items ≡ length (old.chosen.items ++ by.line ∷ []) = ap (λ (lines : List ℕ). length lines) by.chosen in
     omega (arith, longer, length-append old.chosen.items (by.line ∷ []), long)
 
--- The record of the calls chosen for inlining stays valid if one more instruction is added, chosen or not.
+-- The record of the calls chosen for inlining stays valid when it is extended by the decision on one more
+-- instruction, to be inlined or not.
 module _ (program : Program) (r : Routine) (old new : Choice) (need : Option Need) (index : ℕ) (i : Instruction) (at : At r.code index i)
     (long : length old.chosen.items ≡ index) (are : AreChosen program r old.chosen.items old.slots) (by : IsChosenBy old new need)
     (needed : (it : Need) → need ≡ Some it → IsNeed program r i it) (small : r.frame_count ≤ MOST_FRAME_WORDS) where

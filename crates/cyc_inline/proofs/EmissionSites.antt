@@ -237,7 +237,7 @@ module _ (program : Program) (code : List Instruction) (origins : List Origin) (
     later from count more origin are k below =
         let same : from + count + k ≡ from + (count + k) = omega arith in ap (slice_get origins) same ∙ are (count + k) (omega (arith, below))
 
-    -- The replacement of a return ends with control at the position after the call.
+    -- After the code that replaces a callee's return, control is at the code position after the inlined call.
     goes : (k value : ℕ) (is_last : Bool) → (is_last ≡ true → site.following ≡ place k + (site.results + way_count is_last))
         → StandsAt code (passing site.call.result (site.shift + value) site.results ++ way_following is_last site.following) (place k)
         → AreMadeOf origins (place k) (site.results + way_count is_last) (origin_at site.call.callee k)

@@ -28,7 +28,7 @@ leads_still old new i stay leads = tt
 pub stay_then : (old mid new : List Bool) → StayReached old mid → StayReached mid new → StayReached old new
 stay_then old mid new (many, first) (as_many, second) = (as_many ∙ many, λ k is. second k (first k is))
 
--- Marking the callees of one more instruction, or of one more function, keeps the loop invariant.
+-- The loop invariant still holds after the functions called by one more instruction, or by one more function, are marked as reached.
 pub noted_next : (code : List Instruction) (index : ℕ) (i : Instruction) (old new : List Bool) → At code index i → StayReached old new → LeadsTo new i
     → ((p : ℕ) (j : Instruction) → p < index → At code p j → LeadsTo old j) → (p : ℕ) (j : Instruction) → p < index + 1 → At code p j → LeadsTo new j
 noted_next code index i old new at stay leads before p j below there = elim (cases_lt p index) [
@@ -150,7 +150,8 @@ reported_still program given notes reached many are = record {
       (kept_is_reported (is_reached reached k) (routine_at program k) (routine_at given k) (slice_index_or notes k None) (are.each k below))));
 }
 
--- The program made of the functions that the loop returns equals the source program without the code of unreachable functions.
+-- If a loop returns the functions with the code of unreachable ones removed, the program made of these functions is the source
+-- program without unreachable code.
 pub kept_program : (given : Program) (fs gs : List Function) (globals : List ℕ) (main : ℕ) (reached : List Bool) → program_of fs globals main ≡ given
     → map routine_of gs ≡ routines_kept (map routine_of fs) reached → program_of gs globals main ≡ emptied given reached
 kept_program given fs gs globals main reached parts kept =

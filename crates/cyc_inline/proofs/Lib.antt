@@ -1,4 +1,4 @@
--- lemmas: the costs of code positions, each of which has one origin in the source program
+-- lemmas: the costs of code positions, each of which is made from one instruction of the source program
 pub mod Costs
 -- lemmas: moving words one by one equals copying them at once
 pub mod Moves
@@ -22,7 +22,7 @@ pub mod Returning
 pub mod Runs
 -- lemmas: the chosen calls may be inlined, and the numbers in their instructions fit machine words
 pub mod ChoosingCalls
--- lemmas: the code positions of the emitted pieces, and hence the emitted code
+-- lemmas: the code positions of the pieces of code emitted for single instructions, and hence the code emitted for a function
 pub mod EmissionPieces
 pub mod EmissionSites
 pub mod EmissionPlaces

@@ -24,7 +24,8 @@ use Rattle.cyc_inline.proofs.Performing.{is_ordinary, IsNext, Bears, performs}
 
 module _ (program inlined : Program) (origins : List (List Origin)) (are : AreOpened program inlined origins) where
   pub record IsLodged (c : Configuration) (b : Activation) (gs : List Frame) : Type 0 where
-    -- The caller waits in the source program and is the active call in the inlined program.
+    -- During an inlined call, the caller waits for the callee's return in the source program, but is itself the active call in the inlined
+    -- program.
     pub waits : Frame
     pub rest : List Frame
     pub frames : c.frames ≡ waits ∷ rest

@@ -20,7 +20,7 @@ use Rattle.cyc_inline.proofs.Costs.{place_at, own, own_has}
 use Rattle.cyc_inline.proofs.Waiting.{AreSlotted, as_deep, beside, IsOutside, Outside}
 use Rattle.cyc_inline.proofs.Lodged.{IsLodged}
 
--- The step of a configuration is determined by its next instruction, if this instruction is given.
+-- If a configuration has the given next instruction, its step executes this instruction within the limits on heap pages and active calls.
 pub step_is : (program : Program) (pages calls : ℕ) (choice : Choice) (c : Configuration) (i : Instruction) → instruction_at program (place_of (Running c)) ≡ Some i
     → limited_step program pages calls choice (Running c) ≡ limited pages (limit_of (Some i) calls) (Running c) (performed program choice c i)
 step_is program pages calls choice c i at = ap (λ (o : Option Instruction). limited pages (limit_of o calls) (Running c) (executed program choice c o)) at

@@ -40,7 +40,8 @@ module _ (program inlined : Program) (r : Routine) (shift : ℕ) (place : ℕ �
   abbrev pub gone : (d : Configuration) (slots : Words) (next : ℕ) (globals : Words) (output input : List ℕ) → Configuration
   gone d slots next globals output input = record d { active = record d.active { slots = slots; next = next }; globals = globals; output = output; input = input }
 
-  -- Says that the source and the inlined program are at corresponding code positions, or that both are just after the instruction.
+  -- Says that the source and the inlined program are at corresponding code positions, or that both are just after the executed
+  -- instruction, through which control falls.
   abbrev pub IsNext : (to other : ℕ) → Type 0
   IsNext to other = (other ≡ place to) ⊎ ((to ≡ c.active.next + 1) × (other ≡ b.next + 1) × Falls)
 

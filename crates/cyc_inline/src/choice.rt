@@ -17,7 +17,8 @@ use crate::tables::place_in;
 use cyc_plain::{Function, Instruction, LAYOUT_WORDS, MOST_FRAME_WORDS, Plain};
 use std::alloc::{AllocError, Global};
 
-/// The slots and the instructions that the caller needs to inline a call.
+/// The requirements of inlining a call. They are the caller's number of slots afterwards, the number of instructions that replace the call,
+/// and the number of callee instructions placed at the call.
 #[derive(Clone, Copy)]
 pub(crate) struct Need {
     /// The number of slots that the caller has after the call is inlined.

@@ -30,8 +30,8 @@ fn front_of(code: &[Instruction], head: usize) -> Option<usize> {
     }
 }
 
-/// The range of list indices, from `first` up to `end`, of those expressions that are invariant in the
-/// loop that ends and may also be hoisted out of the enclosing loop.
+/// The range of list indices, from `first` up to `end`, of expressions considered for hoisting. These expressions are invariant in the loop
+/// whose end was just reached, and may also be hoisted out of the enclosing loop.
 #[derive(Clone, Copy)]
 struct Kept {
     first: usize,
@@ -100,8 +100,8 @@ impl Search {
         }
     }
 
-    /// Decides on hoisting at the end of a loop. The expressions that are invariant in this loop stay in the list of candidates for the
-    /// enclosing loop. All other expressions of the ended loop are removed from the list of candidates.
+    /// Decides on hoisting at the end of a loop. The expressions that are invariant in this loop stay in the list of expressions
+    /// considered for hoisting, now out of the enclosing loop. All other expressions of the ended loop are removed from this list.
     fn close_loop(&mut self, code: &[Instruction], head: usize) -> Result<(), AllocError> {
         let front = front_of(code, head);
         let first = self.first_from(head);

@@ -80,7 +80,8 @@ pub(crate) struct Search {
     /// The time (instruction index plus 1) of the last change of memory, and the time since which the recorded values of slots are valid.
     pub(crate) stored: usize,
     begun: usize,
-    /// The last instruction at which an expression is worth a slot: the last instruction of the loops so far, or of a small function.
+    /// The last instruction at which an expression may get an extra slot: the last instruction of the loops found so far, or of a
+    /// small function.
     worth: usize,
     /// One more than the index of the last instruction of the loops found so far, or 0.
     looped: usize,

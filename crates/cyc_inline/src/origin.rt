@@ -1,6 +1,6 @@
 //! For the instructions of an inlined program, the source instructions from which they are made.
 
-/// An instruction of the source program, as the origin of one or more instructions.
+/// An instruction of the source program, from which one or more instructions of the inlined program are made.
 #[derive(Clone, Copy, Debug, PartialEq, Eq)]
 pub struct Origin {
     /// The index of the function that contains this source instruction.

@@ -18,14 +18,16 @@ pub struct Opened {
     pub origins: Vec<Origin>,
 }
 
-/// A function of the program; if it was replaced, also the function before its replacement and the origin of each new instruction.
+/// A function of the program; if it was replaced, also the function before its replacement and the source instruction from which
+/// each new instruction is made.
 #[derive(Drop)]
 pub(crate) struct Placed {
     pub(crate) function: Function,
     pub(crate) opened: Option<Opened>,
 }
 
-/// The functions of the program; for each replaced one, also the function before its replacement and the origin of each new instruction.
+/// The functions of the program; for each replaced one, also the function before its replacement and the source instruction from which
+/// each new instruction is made.
 #[derive(Drop)]
 pub(crate) struct Replaced {
     pub(crate) functions: Vec<Function>,

@@ -69,7 +69,7 @@ fn instruction_size(instruction: Instruction) -> Option<usize>
     Some(size)
 }
 
-/// Returns the size of a code in words, if it is at most `most`.
+/// Returns the size of a list of instructions in words of machine code, or `None` if it is more than `most`.
 pub(crate) fn code_size(code: &[Instruction], most: usize) -> Option<usize>
     requires { most ≤ limits.MOST_SIZE }
     ensures size { IfSome result (λ it. it ≡ sum_by instruction_size code.now) }
@@ -86,7 +86,7 @@ pub(crate) fn code_size(code: &[Instruction], most: usize) -> Option<usize>
     Some(size)
 }
 
-/// Returns the size of a program in words, if it is at most `most`.
+/// Returns the size of a program in words of machine code, or `None` if it is more than `most`.
 fn program_size(plain: &Plain, most: usize) -> Option<usize>
     requires { most ≤ limits.MOST_SIZE }
     ensures size { IfSome result (λ it. it ≡ sum_by size plain.now.functions) }

@@ -38,7 +38,7 @@ pub enum BranchZeroOp {
     GreaterOrEqual,
 }
 
-/// A jump to a constant target, plain or with the return address in register 31.
+/// A jump to a target that the instruction itself contains, without a return address or with the return address stored in register 31.
 #[derive(Clone, Copy, Debug, PartialEq, Eq)]
 pub enum JumpOp {
     Plain,

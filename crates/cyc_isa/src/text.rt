@@ -85,8 +85,8 @@ fn hex_digits(word: u32) -> [u8; 8]
     ]
 }
 
-// Each `put_` function below writes a text in order, up to the first failure. If the writing succeeds, a device that
-// worked before still works.
+// Each `put_` function below writes a text in order, up to the first failure. If the writing succeeds, an output
+// device that had not failed before has not failed afterwards either.
 
 fn put_two<W: ByteOut>(first: &[u8], second: &[u8], out: &mut W) -> Result<(), Failed>
     ensures bytes { TakesText (W.written out.old) (first.now ++ second.now) result (W.written out.new) }

@@ -173,8 +173,8 @@ holds_nothing codes.NumberTooLarge count h = begins_nothing (Lexeme (Number h.0)
 holds_nothing codes.TooManyTokens count h = begins_nothing (Lexeme h.0) h.1
 holds_nothing _ count h = h
 
--- Let one division of a text into pieces (tokens, spaces, comments) continue another one. If it adds no piece, then the two are
--- equal, and so are the remaining texts.
+-- Let one division of a text into pieces (tokens, spaces, comments) continue another one. If the continuation adds no piece,
+-- then both divisions are equal, and so are the texts that remain after them.
 end_of : (ps qs more : List Part) (r s : List ℕ) → qs ≡ ps ++ more → IsCut more r s → more ≡ [] → (qs ≡ ps) × (r ≡ s)
 end_of ps qs more r s e cut none = (e ∙ ap (λ l. ps ++ l) none ∙ append-nil ps, subst (λ l. IsCut l r s) none cut)
 

@@ -66,7 +66,7 @@ tokens_within text tokens start place done =
 tokens_push : (ps : List Part) (p : Part) → tokens_of [] (ps ++ p ∷ []) ≡ tokens_of [] ps ++ part_tokens (bytes_of ps) p.piece
 tokens_push ps p = tokens_of-append [] ps (p ∷ []) ∙ ap (λ l. tokens_of [] ps ++ l) (append-nil (part_tokens (bytes_of ps) p.piece))
 
--- The next piece (token, space or comment) of a text. The token that the code makes of this piece, if it is one, is defined next.
+-- The next piece (token, space or comment) of a text. The token that the code makes of a piece, if the piece is a token, is defined next.
 abbrev part_at : List ℕ → ℕ → ℕ → Piece → Part
 part_at text start len m = record { piece = m; bytes = take len (drop start text) }
 

@@ -168,8 +168,8 @@ impl Emitter {
         })
     }
 
-    /// Emits the change of a fat pointer's index. It also emits moves of the pointer's first two words to the slots before the
-    /// index, unless these words are in these slots already.
+    /// Emits the change of a fat pointer's index. Emits also moves of a fat pointer's first two words to the slots before the
+    /// index, unless the words are in these slots already.
     fn change_index(
         &mut self,
         operator: BinaryOperator,

@@ -48,9 +48,9 @@ impl Emitter {
         self.emit_both(number, throw)
     }
 
-    /// Emits the blocks after a function's body that raise exceptions. The first of these blocks is for failed accesses through fat
-    /// pointers and tests a slot that says if the pointer is null. After the block for fat pointers comes one block for each exception
-    /// of the language, in the order of tags.
+    /// Emits the blocks after a function's body that raise exceptions. The first of the blocks that raise exceptions is for failed
+    /// accesses through fat pointers and tests a slot that says if the pointer is null. After the block for fat pointers comes one
+    /// block for each exception of the language, in the order of tags.
     pub(crate) fn lower_blocks(&mut self, slot: usize) -> Result<(), AllocError>
         ensures { Appends result self.old self.new (blocks slot) }
     {

@@ -299,8 +299,8 @@ impl Emitter {
     }
 
     /// Emits the operands of a chain of only `&&` or only `||`. The jumps taken when an operand decides go to the position after
-    /// the conditional jump that ends the condition. The target of these jumps inside the chain is known only after the code of
-    /// the chain was emitted once.
+    /// the conditional jump that ends the condition. The target of the jumps inside a chain is known only after the code of the
+    /// chain was emitted once.
     fn lower_chain(
         &mut self,
         starts: &Starts,
@@ -374,8 +374,8 @@ impl Emitter {
         }
     }
 
-    /// Emits the condition of a branch so that a chain of the other operator (`&&` for `||`, or the reverse) is emitted operand
-    /// by operand. No jump of a condition emitted in this way waits for its target.
+    /// Emits the condition of a branch so that a chain of the other operator (`&&` for `||`, or the reverse) is emitted operand by operand.
+    /// If a chain of the other operator is emitted operand by operand, no jump of the condition waits for its target.
     fn lower_settled(
         &mut self,
         starts: &Starts,
@@ -448,7 +448,7 @@ impl Emitter {
         }
     }
 
-    /// Sets the target of these jumps to the next instruction.
+    /// Sets the target of the given jumps, which are taken if a condition fails and had no target so far, to the next instruction.
     fn lead_here(&mut self, jumps: &[Pending])
         requires { AreBefore jumps.now (length self.old.code.items) }
         ensures { self.new.code.items ≡ failed jumps.now (length self.old.code.items) self.old.code.items }

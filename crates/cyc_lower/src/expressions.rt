@@ -1,5 +1,5 @@
-//! Emits the code of expressions. Each method appends its code to the existing code. The last instruction of an expression's code moves
-//! the value to its slot. All other writes go to the slots from `free` on and to assigned locals.
+//! Emits the code of expressions. Each method appends its code to the existing code. The last instruction of an expression's code moves the
+//! value to its slot. The instructions before the last one change no slots except those from `free` on and those of assigned locals.
 ghost use Rattle.std.specs.Prelude.{◌≡◌, ◌+◌, ◌<◌, ◌≤◌, ◌++◌, None, length};
 ghost use Rattle.cyc_types.specs.TypedTreeView.{view_dereference, view_initial, view_expression, view_converted, view_lvalue, operations_of};
 ghost use Rattle.cyc_types.specs.TypedTrees.{Call};
@@ -146,7 +146,7 @@ impl Emitter {
                 Placement::AsUnique => {
                     self.lower_object(starts, initial, Operand::Word { word: UNIQUE }, slot, free)
                 }
-                // The region handle stays in the first free slot while the values of the object are evaluated.
+                // While the initial values of a new object are evaluated, the handle of its region stays in the first free slot.
                 Placement::ByHandle { handle } => {
                     self.lower_expression(starts, handle, free, free)?;
                     let following = slot_after(free, Kind::Handle)?;
@@ -375,7 +375,7 @@ impl Emitter {
         self.end_array(slot, following - 1, free)
     }
 
-    /// Emits an expression as an operand. If it needs code, the code moves its value to a slot.
+    /// Emits an expression as an operand. If the expression needs code, the code moves its value to a slot.
     #[cycle(expression)]
     pub(crate) fn lower_operand(
         &mut self,
@@ -554,7 +554,7 @@ impl Emitter {
     }
 
     /// Emits a value that must be in a slot. The value of a local stays in the slot of the local if its conversion changes no
-    /// words. Any other value is moved to the slot `free`.
+    /// words. A value that is not in a local's slot, or whose conversion changes its words, is moved to the slot `free`.
     pub(crate) fn lower_to_slot(
         &mut self,
         starts: &Starts,

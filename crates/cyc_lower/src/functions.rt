@@ -54,7 +54,7 @@ fn results_of(of_type: &Option<Ty>) -> usize
 }
 
 /// Returns how many instructions of the blocks that raise exceptions remain in the code, computed from the
-/// farthest jump target. The first two instructions of these blocks form one block.
+/// farthest jump target. The first two instructions of the blocks that raise exceptions form one block.
 fn blocks_kept(farthest: usize) -> usize
     ensures { result ≡ blocks_kept farthest }
 {
@@ -83,10 +83,10 @@ fn lower_body(
     Ok(emitter)
 }
 
-/// Lowers a function. The slots of a function hold its locals, the tag of an exception, the handler records and the temporaries, and
-/// there are slots for one more value. The body is emitted with provisional targets, far after its code, for the blocks that raise
-/// exceptions. The positions of these blocks are known only after the body is emitted. The provisional targets in the emitted body are
-/// then replaced. The blocks that raise exceptions are then emitted, and those after the last one that is a jump target are removed.
+/// Lowers a function. The slots of a function hold its locals, the tag of an exception, the handler records and the temporaries, and there
+/// are slots for one more value. The body is emitted with provisional targets, far after its code, for the blocks that raise exceptions.
+/// The positions of the blocks that raise exceptions are known only after the body is emitted. The provisional targets in the emitted body
+/// are then replaced. The blocks that raise exceptions are then emitted, and those after the last one that is a jump target are removed.
 fn lower_function(
     alloc: Global,
     structs: &[StructType],

@@ -74,7 +74,7 @@ pub(crate) fn place_of_value(value: &Expr) -> Option<Span> {
     }
 }
 
-/// Returns the source position of an operator that computes. For an operator on two ints, it is that of the right operand.
+/// Returns the source position of an operator that computes. For an operator on two ints, the source position is that of the right operand.
 pub(crate) fn place_of_operation(operation: &Operation) -> Option<Span> {
     match operation {
         Operation::Compute { span, .. } => Some(*span),

@@ -235,8 +235,8 @@ impl Emitter {
         }
     }
 
-    /// Emits the allocation of a block for as many words as the slot `free` contains, or for one if it contains 0. The block's
-    /// address replaces this number in the slot.
+    /// Emits the allocation of a block for as many words as the slot `free` contains, or for one if it contains 0. The address
+    /// of the new block replaces the number of words in the slot.
     fn ask_for_array(
         &mut self,
         handle: Operand,

@@ -15,7 +15,8 @@ use cyc_types::Flowed;
 use cyc_words::{Code, Fault};
 use std::alloc::Global;
 
-/// Returns the plain program of a typed tree that satisfies the flow rules.
+/// Returns the plain program (three-address code) of a typed tree that satisfies the flow rules, for example that used variables hold
+/// values.
 ///
 /// A program with more than `MOST_FUNCTIONS` functions is rejected with `TooManyFunctions`, at the name of the first function beyond the
 /// limit. A program within the limit is rejected only for lack of memory.
@@ -24,7 +25,8 @@ pub fn lower(alloc: Global, program: &Flowed) -> Result<Plain, Fault>
     requires small { program_weight (view_program program.now.tree) ≤ max_tokens }
     requires can_be { CanBeLowered (view_program program.now.tree) }
 
-    // The result of `lower` is a plain program with the behaviour of the source. A rejected program has too many functions.
+    // The plain program that `lower` returns has the behaviour of the source program. A program that `lower` rejects has
+    // too many functions.
     ensures { Decides (IsAccepted (view_program program.now.tree)) IsLowered (HasTooMany (view_program program.now.tree))
         (HasTooMany (view_program program.now.tree)) result }
 {

@@ -65,7 +65,8 @@ impl Emitter {
     }
 
     /// Emits the beginning of a `try`. The handler record of the `try` is in the slots from `free` on, followed by the number of open
-    /// lexical regions if the program has any. Returns the slot after the record and this number.
+    /// lexical regions if the program has any. Returns the slot after the handler record and, if it is stored, the number of open
+    /// lexical regions.
     pub(crate) fn begin_try(&mut self, starts: &Starts, free: usize) -> Result<usize, AllocError>
         requires { free ≤ most_locals }
         ensures { Gives (after_record (view_starts starts.now) free) result self.old self.new (kept_code (view_starts starts.now) free) }
@@ -106,7 +107,7 @@ impl Emitter {
         self.name_local(starts, 1, number, Operand::Slot { number: free })
     }
 
-    /// Emits the closing of the dynamic region that belongs to a key.
+    /// Emits the closing of the dynamic region that a key opens.
     pub(crate) fn close_dynamic(&mut self, handle: Operand) -> Result<(), AllocError>
         ensures { Appends result self.old self.new (closing_code handle) }
     {

@@ -5,9 +5,9 @@ use cyc_types::typed::StructType;
 use std::alloc::Global;
 
 /// A function's lowering data: the slots of the locals, the slot after the locals, the structs, and the position after which the blocks
-/// that raise exceptions come. The data also contain the slots of the loop counters that fill enclosing arrays, outermost first, and the
-/// indices of the first words of the globals. The data also contain the offset after a handler record at which a `try` stores the number
-/// of open lexical regions.
+/// that raise exceptions come. The lowering data also contain the slots of the loop counters that fill enclosing arrays, outermost
+/// first, and the indices of the first words of the globals. The lowering data of a function also contain the offset after a handler
+/// record at which a `try` stores the number of open lexical regions.
 #[derive(Clone, Copy)]
 pub(crate) struct Starts<'a> {
     pub(crate) locals: &'a [usize],

@@ -373,8 +373,8 @@ jumped_code : code_of_body (all (While nowhere (sets 0 (local 1)) Empty ∷ []))
     ∷ instructions.Finish 2 ∷ []
 jumped_code = refl
 
--- A loop without `break` is left by its first condition if that condition fails. `continue` jumps to the first condition of the
--- loop, and an iteration takes one jump, the comparison.
+-- If a loop without `break` has a false condition, the copy of the condition before the loop's body leaves the loop. `continue`
+-- jumps to this copy, and an iteration runs one jump instruction, that of the comparison.
 continued_code : code_of_body (all (While nowhere (two (local 0) (ThenCompute LessOrEqual (local 1) NoOperations)) (If (local 1) Continue Empty) ∷ [])) ≡
     instructions.Branch comparisons.Greater (Slot 0) (Slot 1) 4
     ∷ jump_if_zero (Slot 1) 3 ∷ Jump 0
@@ -423,7 +423,8 @@ direct_code : code_of_body (all (Evaluate (sets 0 (two (local 0) (ThenCompute Ad
     ∷ instructions.Finish 2 ∷ []
 direct_code = refl
 
--- An operator chain that is assigned to a local and reads this local in its last operand keeps its earlier values in a temporary.
+-- An expression of several operators is assigned to a local and reads this local in its last operand. The code keeps the results
+-- of the earlier operators in a temporary.
 chain_code : code_of_body (all (Evaluate (sets 0 (two (local 1) (ThenCompute Subtract (Number 3) (ThenCompute Divide (local 0) (ThenCompute Remainder (Number 7) NoOperations))))) ∷ [])) ≡
     instructions.Binary plain_binary.Subtract 3 (Slot 1) (Constant 3)
     ∷ jump_if_zero (Slot 0) 10 ∷ instructions.Binary plain_binary.Divide 3 (Slot 3) (Slot 0)

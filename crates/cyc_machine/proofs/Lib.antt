@@ -7,7 +7,7 @@ pub mod FastLoop
 pub mod Between
 pub mod BetweenShape
 pub mod Serving
--- lemmas about the words that the machine stores and the words that it leaves out
+-- lemmas about the memory words that the machine stores, and about those that it does not store because they are 0
 pub mod Widening
 -- loading
 pub mod Segments

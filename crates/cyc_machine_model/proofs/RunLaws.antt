@@ -80,7 +80,7 @@ Run-input (suc count) w w' (mid, goes, run) =
     let then = Run-input count mid w' run in
     (first.0 ++ then.0, first.1 ∙ (ap (λ rest. first.0 ++ rest) then.1 ∙ sym (append_assoc first.0 then.0 w'.input)))
 
--- If `end_in` finds a run's end in a phase, this phase is that of a run that has ended so.
+-- If `end_in` finds that a run in a given phase has ended in some way, the phase is `Over` with this way of ending.
 over-end_in : (phase : Phase) (end : End) → end_in phase ≡ Some end → phase ≡ Over end
 over-end_in Running end ended = cc
 over-end_in Waiting end ended = cc

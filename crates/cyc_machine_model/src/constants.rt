@@ -49,8 +49,8 @@ pub const END_RETURNED: u32 = 3;
 /// The number of the system call that ends a run because no handler has caught an exception.
 pub const END_UNCAUGHT: u32 = 4;
 
-/// The number of the system call that opens a lexical region. The call returns the region's handle and the number of
-/// lexical regions that were open before.
+/// The number of the system call that opens a lexical region. The system call that opens a lexical region returns
+/// the region's handle and the number of lexical regions that were open before.
 pub const OPEN_LEXICAL: u32 = 5;
 
 /// The number of the system call that closes the newest lexical regions until only the requested number is open.
@@ -77,13 +77,15 @@ pub const SERVICE: u8 = 2;
 /// The register that holds the second word of a system call's result.
 pub const SECOND_ANSWER: u8 = 3;
 
-/// The register that holds the first argument of a system call. At the start of a run it holds the call limit.
+/// The register that holds the first argument of a system call. At the start of a run the register of the
+/// first argument holds the limit of active calls.
 pub const ARGUMENT: u8 = 4;
 
 /// The register that holds the second argument of a system call.
 pub const SECOND_ARGUMENT: u8 = 5;
 
-/// The register that holds the lowest used address of the stack. At the start of a run it holds the end of the stack.
+/// The register that holds the lowest used address of the stack. At the start of a run the register of the lowest
+/// used stack address holds the end of the stack.
 pub const STACK_POINTER: u8 = 29;
 
 /// The register in which the `jal` instruction leaves the return address.

@@ -3,7 +3,7 @@
 /// The cause of a trap: the reason for which the machine refused an instruction.
 ///
 /// If an instruction has several causes to be refused, the machine reports the first in the order of this list. Errors in fetching an
-/// instruction come before all causes of this list.
+/// instruction are reported before all causes of traps in this list.
 #[derive(Clone, Copy, Debug, PartialEq, Eq)]
 pub enum Cause {
     /// The word at the program counter encodes no instruction.

@@ -136,7 +136,8 @@ stale after = program (
     ∷ define 4 star (null_as star)
     ∷ after)
 
--- For a stale pointer p, `p == p`, `p == q` and `q != p` are dead accesses; `p == z` and `z != p` are not, and the pointers differ.
+-- Let p be a pointer into a closed region, q one to a live object, and z null. Then `p == p`, `p == q` and `q != p` are dead
+-- accesses; `p == z` and `z != p` are not, and p differs from z.
 stale_compared_with_itself : long_end (stale (return (apply (variable 1 star) pointers.EqualThin (variable 1 star) Int) ∷ [])) ≡ IsDead
 stale_compared_with_itself = refl
 
@@ -178,7 +179,7 @@ no_local = refl
 no_counter : end (program (return (Counter 0) ∷ [])) ≡ IsWrong
 no_counter = refl
 
--- A program is wrong if it returns a pointer as an int, or uses a pointer of another kind than its tree states.
+-- A program is wrong if it returns a pointer as an int, or uses a pointer whose representation kind is not the one that its tree states.
 wrong_kind_returned : end (program (return (new OnHeap at (Number 1)) ∷ [])) ≡ IsWrong
 wrong_kind_returned = refl
 
@@ -210,7 +211,7 @@ free_of_a_region's = refl
 argument_is_missing : end (program_with (function (Int ∷ []) (return (local 0) ∷ []) ∷ []) (return (Call (callees.Function 1) NoArguments (Value Int)) ∷ [])) ≡ IsWrong
 argument_is_missing = refl
 
--- `int x = 1; int *p = NULL; x :=: p;` is wrong, because the swapped values have different kinds.
+-- `int x = 1; int *p = NULL; x :=: p;` is wrong, because one of the swapped values is an int and the other a pointer.
 wrong_kind_swapped : end (program (declare 0 (Number 1) ∷ define 1 star (null_as star) ∷ Execute (Swap (side 0 Int) (side 1 star)) ∷ [])) ≡ IsWrong
 wrong_kind_swapped = refl
 

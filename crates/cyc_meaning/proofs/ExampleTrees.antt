@@ -94,7 +94,7 @@ function parameters is = record {
   end = here;
 }
 
--- A program with `main`, which has the number 0, and other functions.
+-- A program that consists of `main`, which is the function with index 0, and of other functions.
 abbrev pub program_with : List Function → List typed.Item → Program
 program_with functions is = record { structs = []; exceptions = []; globals = []; functions = function [] is ∷ functions; main = 0 }
 
@@ -152,7 +152,7 @@ own_fat = Pointer marks.Fat Int Unique
 
 -- ---- expressions on pointers
 
--- Converts a value from the first type to the second.
+-- Converts the value of an expression from the type `from` to the type `to`.
 abbrev pub convert : (from to : Ty) → Expression → Converted
 convert from to a = Convert (kind_of from) (kind_of to) a
 

@@ -281,7 +281,8 @@ new_value_on_the_right = refl
 assignment_has_its_value : end (program (Declare 0 Int None ∷ Declare 1 Int None ∷ execute (assign 0 (assign 1 (Number 5))) ∷ return (two (local 0) operators.Add (local 1)) ∷ [])) ≡ HasEnded (Returned (pos 10))
 assignment_has_its_value = refl
 
--- `int x; return x;` is wrong, and so are the next two examples; the checker rejects all three.
+-- `int x; return x;` makes the program wrong, because x has no value, and the next two examples are
+-- wrong programs too; the checker rejects all three texts.
 unset_local_has_no_value : end (program (Declare 0 Int None ∷ return (local 0) ∷ [])) ≡ IsWrong
 unset_local_has_no_value = refl
 
@@ -559,6 +560,6 @@ abbrev two_blocks : Program
 two_blocks = program (Execute (block []) ∷ Execute (block (while (Number 1) Empty ∷ [])) ∷ return (Number 0) ∷ [])
 
 -- In this example the open regions are the heap, the region of the globals, the region of `main`, and that of the second block. The
--- first block's region is closed, and its number is not reused.
+-- first block's region is closed, and its index is not reused.
 second_block_is_open : open_in (run two_blocks [] 50) ≡ 0 ∷ 1 ∷ 2 ∷ 4 ∷ []
 second_block_is_open = refl

@@ -132,7 +132,7 @@ full_with_one_page = refl
 full_with_one_page_printed : printed_within 1 2 stops_twice ≡ 120 ∷ []
 full_with_one_page_printed = refl
 
--- `throw new Div_zero;` throws a built-in exception, whose number is 4
+-- `throw new Div_zero;` throws the built-in exception that the number 4 identifies
 own_exception : end (program (throw 4 None ∷ [])) ≡ HasEnded (Uncaught 4 (pos 0))
 own_exception = refl
 

@@ -19,41 +19,41 @@ of_assignment = refl
 of_read : expression_need (Load (target at (variable 0 at))) ≡ 2
 of_read = refl
 
--- `p[i]` needs 3 + 1 + 1 words: the fat pointer, the index, and the int read.
+-- `p[i]` needs 3 + 1 + 1 temporary words: the fat pointer, the index, and the int read.
 of_element : expression_need (Load (element (variable 0 fat) (local 1))) ≡ 5
 of_element = refl
 
--- `p[i] = 1`: a pointer to the assigned cell needs 3 words beside p and i: 3 + 1 + 3, more than the 3 + 1 + 1 of the assignment
+-- `p[i] = 1`: a pointer to the assigned cell needs 3 temporary words beside p and i: 3 + 1 + 3, more than the 3 + 1 + 1 of the assignment
 of_element_assigned : expression_need (put (element (variable 0 fat) (local 1)) (Number 1)) ≡ 7
 of_element_assigned = refl
 
--- `&x` needs 3 + 1 words, and `&p[i]` needs 3 + 1 + 3.
+-- `&x` needs 3 + 1 temporary words, and `&p[i]` needs 3 + 1 + 3.
 of_address : expression_need (AddressOf (typed.Local here 0) at) ≡ 4
 of_address = refl
 
 of_element_address : expression_need (AddressOfCell (element (variable 0 fat) (local 1)) at) ≡ 7
 of_element_address = refl
 
--- `p == NULL` for a fat pointer needs 3 + 1 + 1 words.
+-- `p == NULL` for a fat pointer needs 3 + 1 + 1 temporary words.
 of_null_test : expression_need (apply (variable 0 fat) pointers.FatIsNull NullPointer Int) ≡ 5
 of_null_test = refl
 
--- `NULL == p[i]` for a cell with an int pointer needs one word for NULL, plus the need of `p[i]`: 1 + 5
+-- `NULL == p[i]` for a cell with an int pointer needs one temporary word for NULL, plus the temporary words that `p[i]` needs: 1 + 5
 of_null_first : expression_need (apply NullPointer pointers.NullIs (Load (element (variable 0 fat) (local 1))) Int) ≡ 6
 of_null_first = refl
 
--- `p + 1` needs 3 + 1 + 3 words, and `numelts(p)` needs 3 + 1.
+-- `p + 1` needs 3 + 1 + 3 temporary words, and `numelts(p)` needs 3 + 1.
 of_sum : expression_need (apply (variable 0 fat) pointers.AddFat (Number 1) fat) ≡ 7
 of_sum = refl
 
 of_count : expression_need (NumberOfElements (variable 0 fat)) ≡ 4
 of_count = refl
 
--- `q = p` with q fat and p thin needs 3 + 3 + 3 words; a converted operand counts the larger of its two sizes.
+-- `q = p` with q fat and p thin needs 3 + 3 + 3 temporary words; a converted operand counts the larger of its two sizes.
 of_converted : expression_need (set 0 fat (convert at fat (variable 1 at))) ≡ 9
 of_converted = refl
 
--- `new 1` needs 1 + 1 words; `rnew(h) 1` and `rnew(unique_region) 1` need 1 + 1 + 1.
+-- `new 1` needs 1 + 1 temporary words; `rnew(h) 1` and `rnew(unique_region) 1` need 1 + 1 + 1.
 of_new : expression_need (new OnHeap at (Number 1)) ≡ 2
 of_new = refl
 
@@ -63,29 +63,29 @@ of_new_by_handle = refl
 of_new_unique : expression_need (new AsUnique own (Number 1)) ≡ 3
 of_new_unique = refl
 
--- `new {for i < n : i}` needs 4 words for the `for`, 1 for the element and 3 for the pointer, and one more after a handle.
+-- `new {for i < n : i}` needs 4 temporary words for the `for`, 1 for the element and 3 for the pointer, and one more after a handle.
 of_array : expression_need (array OnHeap fat (local 0) (Counter 0)) ≡ 8
 of_array = refl
 
 of_array_by_handle : expression_need (array (ByHandle (variable 1 (Handle Heap))) fat (local 0) (Counter 0)) ≡ 9
 of_array_by_handle = refl
 
--- `char(1)` needs 1 + 1 words; a char used as an int needs only the words that the char needs.
+-- `char(1)` needs 1 + 1 temporary words; a char used as an int needs only the words that the char needs.
 of_low_byte : expression_need (Unary unary.LowByte (Number 1)) ≡ 2
 of_low_byte = refl
 
 of_char_as_int : expression_need (Unary unary.Widen (variable 0 Char)) ≡ 1
 of_char_as_int = refl
 
--- `free_ukey(k)` needs one word for the key, and none for a value.
+-- `free_ukey(k)` needs one temporary word for the key, and none for a value.
 of_free_key : expression_need (FreeKey (move 0 (Key Heap))) ≡ 1
 of_free_key = refl
 
--- `p[i] :=: x` needs the larger of 3 + 3 words for both operands and 3 + 1 + 3 for the left operand with p and i.
+-- `p[i] :=: x` needs the larger of 3 + 3 temporary words for both operands and 3 + 1 + 3 for the left operand with p and i.
 of_swap : statement_need (Swap (CellSide (element (variable 0 fat) (local 1))) (side 2 Int)) ≡ 7
 of_swap = refl
 
--- `x :=: p[i]` evaluates its right operand after the left one, so it needs 3 + 3 + 1 + 3 words.
+-- `x :=: p[i]` evaluates its right operand after the left one, so it needs 3 + 3 + 1 + 3 temporary words.
 of_swap_right : statement_need (Swap (side 2 Int) (CellSide (element (variable 0 fat) (local 1)))) ≡ 10
 of_swap_right = refl
 

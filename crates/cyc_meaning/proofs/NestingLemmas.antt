@@ -84,7 +84,7 @@ home_found regions home (entry ∷ stack) is h = home_found regions home stack i
 
 -- ---- lexical regions
 
--- Returns true if the region number is in the list.
+-- Returns true if the given region index is in the given list of region indices.
 abbrev pub is_one : ℕ → List ℕ → Bool
 is_one number ns = list_any (λ (n : ℕ). n == number) ns
 
@@ -120,7 +120,7 @@ scopes_more regions r ns none are number = go regions number ∙ are number
     go (q ∷ rs) zero = refl
     go (q ∷ rs) (suc i) = go rs i
 
--- Appending an open lexical region adds its number to the list of open lexical regions.
+-- Appending an open lexical region adds its index to the list of the indices of open lexical regions.
 scopes_new : (regions : List Region) (r : Region) (ns : List ℕ) → is_scope r.sort r.is_open ≡ true → AreScopes regions ns → AreScopes (regions ++ r ∷ []) (length regions ∷ ns)
 scopes_new regions r ns scope are number = elim (cases_eq (length regions) number) [
   | inl same ↦
@@ -129,13 +129,13 @@ scopes_new regions r ns scope are number = elim (cases_eq (length regions) numbe
   | inr other ↦ after_others regions r number (λ e. other (sym e)) ∙ (are number ∙ sym (one_there number (length regions) ns other))
 ]
 
--- If a region is replaced by one that is not an open lexical region, then its number no longer belongs to an open lexical region.
+-- If a region is replaced by one that is not an open lexical region, then its index no longer identifies an open lexical region.
 set_none : (regions : List Region) (number : ℕ) (r : Region) → is_scope r.sort r.is_open ≡ false → is_open_scope (slice_get (set regions number r) number) ≡ false
 set_none [] number r none = refl
 set_none (q ∷ regions) zero r none = none
 set_none (q ∷ regions) (suc number) r none = set_none regions number r none
 
--- Closing a region keeps the invariant on the list of open lexical regions, both for a region of the list and for any other.
+-- After a region is closed, a list without its index is exactly that of the open lexical regions if it was right for the other regions.
 scopes_less : (regions : List Region) (closes : ℕ) (r : Region) (ns : List ℕ) → is_scope r.sort r.is_open ≡ false → is_one closes ns ≡ false
     → ((number : ℕ) → closes ≢ number → is_open_scope (slice_get regions number) ≡ is_one number ns) → AreScopes (set regions closes r) ns
 scopes_less regions closes r ns none gone are number = elim (cases_eq closes number) [

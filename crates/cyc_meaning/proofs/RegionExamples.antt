@@ -103,7 +103,7 @@ opened_and_freed after = program (
     ∷ free_key 0
     ∷ after)
 
--- `return p == NULL;`: a stale pointer is not null
+-- `return p == NULL;`: a stale pointer, which points into a closed region, is not null
 stale_is_not_null : long_end (opened_and_freed (return (apply (variable 1 star) pointers.ThinIsNull NullPointer Int) ∷ [])) ≡ HasEnded (Returned (pos 0))
 stale_is_not_null = refl
 
@@ -174,8 +174,8 @@ thrown_beside_a_key : long_end (program (
 thrown_beside_a_key = refl
 
 -- try { region<`k> h = open(k); throw new E; } catch { case &E: return *p; }
--- A throw does not close a dynamic region even if it leaves the block that opened it. (The checker rejects this text, since the region is
--- not known to be open in the catch clause.)
+-- A throw does not close a dynamic region even if it leaves the block that opened it. (The checker rejects this text, since it cannot
+-- derive that the region is open in the catch clause.)
 thrown_past_a_key : long_end (program (
     DeclareKey 1 0
     ∷ define 1 star (null_as star)

@@ -138,7 +138,7 @@ aliased = refl
 
 -- ---- demand
 
--- The heap state after one more unique block of 512 words is allocated, and the heap state after one such block is freed.
+-- The heap state after one more unique block of 512 words is allocated, and the heap state after a unique block of 512 words is freed.
 abbrev more : World → World
 more w = made_unique w (blanks 512 kinds.Int)
 

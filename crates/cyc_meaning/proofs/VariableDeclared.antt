@@ -1,5 +1,5 @@
 -- The effect of declaring a local on the invariant that each live variable is a global or a local of an active call. The declared local is
--- a new object, and the object that its number denoted before can no longer be reached.
+-- a new object, and the object that the local's index denoted before can no longer be reached.
 use Rattle.std.proofs.Common.{◌≡◌, ℕ, zero, suc, Bool, List, [], ◌∷◌, ◌++◌, length, Option, Some, None, refl, sym, ap, subst, ◌∙◌, inl, inr, arith}
 use Rattle.std.specs.Prelude.{◌≢◌, ◌⊎◌, ◌<◌, ◌==◌, if◌then◌else◌, slice_get}
 use Rattle.std.proofs.lemmas.Bool.{eq-eqb, eqb-true, false_from_ne_true, cases_eq}
@@ -113,7 +113,7 @@ module _ (number : ℕ) (locals : Locals) (x : Object) (objects : List Object) (
   later_declared (EndLoan lent ∷ stack) bound here is below h = later_declared stack bound here is below h
   later_declared (entry ∷ stack) bound here is below h = absurd here
 
--- Each local of an active call is an existing object.
+-- Each local of an active call is an object whose owner is a region.
 waiting_lives : (stack : List Entry) (objects : List Object) (regions : List Region) → WaitInBlocks stack objects regions → (call number object : ℕ) → IsLocal (waiting stack) call number object → (region : ℕ) × LivesIn objects object region
 waiting_lives [] objects regions h call number object (locals, there, is) = absurd (let e : None ≡ Some locals = there in cc)
 waiting_lives (Caller outer ∷ stack) objects regions h zero number object is =

@@ -23,8 +23,8 @@ pub data Stays (globals : ℕ) (known : Type 0) : State → Type 0 where
   Dies : {output input : List ℕ} → Stays globals known (Dead output input)
   Fails : {output input : List ℕ} → Stays globals known (Wrong output input)
 
--- Says that a step keeps the invariant that live variables are globals or locals of active calls; the next action declares no
--- local, or may declare one.
+-- Two statements that a step keeps the invariant that live variables are globals or locals of active calls. One is for a next
+-- action that declares no local, the other for a next action that may declare one.
 abbrev pub Silent : (globals : ℕ) → List Entry → Environment → World → State → Type 0
 Silent globals stack e w s = Stays globals (IsNested stack e w × (AreNamed globals stack e.locals w.objects w.regions)) s
 

@@ -16,7 +16,8 @@ result_words Void = 0
 result_words Null = 1
 result_words (Value t) = words_of t
 
--- Returns the number of words of an operand, which always has a value.
+-- Returns the number of words of the value of an expression that is an operand. Such an expression
+-- is never without a value, so even the type `void` counts as one word.
 abbrev pub operand_words : ValueType → ℕ
 operand_words Void = 1
 operand_words Null = 1

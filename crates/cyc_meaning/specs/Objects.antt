@@ -67,7 +67,7 @@ created_in w region (Found r) cells = Found (made_in w region r cells)
 created_in w region Closed cells = Closed
 created_in w region Missing cells = Missing
 
--- Returns the heap state with a new object of the given owner; the object gets the next number.
+-- Returns the heap state with a new object of the given owner; the object gets the next unused index.
 abbrev pub created : World → Owner → List Cell → Access World
 created w (InRegion region) cells = created_in w region (region_at w region) cells
 created w (Unique true) cells = Found (made_unique w cells)
@@ -75,6 +75,6 @@ created w (Unique false) cells = Missing
 
 -- ---- freeing
 
--- Frees a unique object: the object keeps its number, its cells and the values in them.
+-- Frees a unique object: the object keeps its index, its cells and the values in them.
 abbrev pub freed : World → (number : ℕ) → Object → World
 freed w number x = record w { objects = set w.objects number (record x { owner = Unique false }) }

@@ -19,7 +19,7 @@ pub data Result : Type 0 where
   Raises : (tag : ℕ) → Result
   Misfits : Result
 
--- The number of a built-in exception, here the one raised by an access through null.
+-- The number that identifies the built-in exception raised by an access through null.
 abbrev pub null_exception : ℕ
 null_exception = 1
 

@@ -45,7 +45,8 @@ pointer_result operators.NullIs Null right = null_test false right
 pointer_result operators.NullIsNot Null right = null_test true right
 pointer_result operator left right = Misfits
 
--- Returns the representation kind of a pointer operator's result; the next function tells which kinds its left operand may have.
+-- Returns the representation kind of a pointer operator's result: fat pointer for `AddFat` and `SubtractFat`, int for the
+-- others. The definition after this one gives the kinds that the operator's left operand may have.
 abbrev pub result_kind : PointerOperator → Kind
 result_kind operators.AddFat = kinds.Fat
 result_kind operators.SubtractFat = kinds.Fat

@@ -103,7 +103,7 @@ cell_at w object offset = cell_in w (slice_get w.objects object) offset
 abbrev pub new_region : Sort → Region
 new_region sort = record { sort = sort; is_open = true; blocks = [] }
 
--- Returns the heap state with one more region of the given sort; the region gets the next number.
+-- Returns the heap state with one more region of the given sort; the region gets the next unused index.
 abbrev pub opened_as : Sort → World → World
 opened_as sort w = record w { regions = w.regions ++ new_region sort ∷ [] }
 
@@ -121,7 +121,7 @@ closed w number r = record w { regions = set w.regions number (record r { is_ope
 abbrev pub variable : (region : ℕ) → Kind → Option Value → Object
 variable region kind content = record { owner = InRegion region; cells = record { kind = kind; content = content } ∷ [] }
 
--- Returns the heap state with one more object, which gets the next number.
+-- Returns the heap state with one more object, which gets the next unused index.
 abbrev pub made : World → Object → World
 made w x = record w { objects = w.objects ++ x ∷ [] }
 
@@ -181,7 +181,7 @@ pub data Awaiting : Type 0 where
   Pass : Callee → (before : List Operand) → Arguments → Awaiting
   -- Waits for the pointer of `*e`, with its representation kind and its target: a cell of a kind, or a struct.
   Follow : (pointer : Kind) → (target : Option Kind) → Awaiting
-  -- Waits for the pointer of `e->f`, with the kinds of the struct's fields and the number of the field.
+  -- Waits for the pointer of `e->f`, with the representation kinds of the struct's fields and the index of the field.
   FollowMember : (pointer : Kind) → (fields : List Kind) → (field : ℕ) → Awaiting
   -- Waits for the fat pointer of `e[i]`, and then for the index.
   Index : (peek : Option ℕ) → (target : Option Kind) → (index : Expression) → Awaiting
@@ -221,7 +221,7 @@ pub data AwaitingPlace : Type 0 where
   -- Reads a cell, which must have the given kind.
   LoadFrom : Kind → AwaitingPlace
   TakeAddress : AwaitingPlace
-  -- Waits for the cell on the left side of `=`, followed by the right side.
+  -- Waits for the cell on the left side of `=`, after which the right side is evaluated.
   StoreTo : (peek : Option ℕ) → Converted → AwaitingPlace
   -- Waits for one operand of a swap of values of the given kind. `SwapLeft` waits for the left operand of a swap, which the right operand
   -- follows. `SwapRight` waits for the right operand of a swap, after the left one, which is a cell or a variable.
@@ -270,7 +270,8 @@ pub data Focus : Type 0 where
   Proceeding : Focus
   -- All arguments of a call are evaluated, newest first, and the call follows.
   Calling : Callee → (arguments : List Operand) → Focus
-  -- Opens the region of a call, and then declares its parameters from the given number on; the arguments are in order.
+  -- Opens the region of a call, and then declares its parameters as locals with consecutive indices from the given one
+  -- on; the arguments are in order.
   Entering : Function → (arguments : List Operand) → Focus
   Binding : (number : ℕ) → List Ty → (arguments : List Operand) → (body : Items) → Focus
   -- Declares a local with the given initial value, and continues with the rest of the block that declares it.
@@ -281,8 +282,8 @@ pub data Focus : Type 0 where
   -- Allocates the block of an array of `count` elements, and then evaluates its elements one by one.
   Beginning : Owner → (count level : ℕ) → Kind → (element : Expression) → Focus
   Repeating : (object count index level : ℕ) → Kind → (element : Expression) → Focus
-  -- Both cells of a swap of values of the given kind are known, and are read one by one. The optional operand is the value of the left
-  -- cell, once that cell was read.
+  -- The run has found the left and the right cell of a swap of values of the given kind, and reads them one by one. The optional
+  -- operand is the value of the left cell, once that cell was read.
   Swapping : Kind → (left right : Value) → Option Operand → Focus
   -- Pops stack entries, newest first: down to a loop, or to the end of the call.
   Breaking : Focus
@@ -380,7 +381,7 @@ first_regions = new_region Heap ∷ new_region Globals ∷ []
 abbrev pub first_classes : List ℕ
 first_classes = 0 ∷ 0 ∷ 0 ∷ 0 ∷ 0 ∷ 0 ∷ 0 ∷ 0 ∷ 0 ∷ 0 ∷ 0 ∷ []
 
--- Returns the heap state at the start of a run; each global is the object with the global's number.
+-- Returns the heap state at the start of a run; the object of each global has the same index as the global.
 abbrev pub first_world : Program → (input : List ℕ) → World
 first_world program input = record {
   regions = first_regions;

@@ -1,5 +1,5 @@
 -- Values, the cells that contain them, and the operands (values with their representation kind) that wait for their use. Pointers
--- contain no addresses: a pointer names an object by its number. The kinds of values and the three words of a fat pointer are the
+-- contain no addresses: a pointer names an object by its index. The kinds of values and the three words of a fat pointer are the
 -- Cyclone User's Manual's (1.0); the form is this project's own choice.
 use Rattle.std.specs.Prelude.{ℕ, ◌+◌, ◌*◌, ◌/◌, ◌==◌, ◌&&◌, Bool, true, false, max, List, [], ◌∷◌, map, Option, None}
 use Rattle.cyc_types.specs.declared.typed.Kind.{Kind}
@@ -19,7 +19,7 @@ pub data Value : Type 0 where
   -- A fat pointer to a part of an object: its first cell, its number of cells, and the index into the part. The index is a word, as an
   -- int is.
   Fat : (object start count index : ℕ) → Value
-  -- The handle of the region with the given number, or the key of a dynamic region.
+  -- The handle of the region with the given index, or the key of a dynamic region with that index.
   Handle : (region : ℕ) → Value
   Key : (region : ℕ) → Value
 

@@ -89,7 +89,7 @@ pub fn limited_run_agrees()
     ensures unlimited { (program : Program) (input : List ℕ) (count : ℕ) → status_of (run program input count) ≢ HasEnded Full }
 {}
 
-/// No number of a region or an object is reused. A region keeps its sort, and stays closed once it is closed. An object keeps its owner and
+/// No index of a region or an object is reused. A region keeps its sort, and stays closed once it is closed. An object keeps its owner and
 /// the kinds of its cells, and stays freed once it is freed.
 pub fn numbers_stay()
     ensures { (program : Program) (count : ℕ) (focus : Focus) (stack : List Entry) (e : Environment) (w : World)

@@ -62,7 +62,7 @@ module _ {t : Tables} {w : World} {s : StoreState} (related : Related t w s) whe
     | inr (n, owner, entry) ↦ inr (record { at = there; region = n; owner = owner; entry = entry; live = live })
   ]
 
-  -- A cell that is found belongs to a live object.
+  -- If looking up a cell succeeds, the cell is a cell of a live object.
   pub found-either : (o k : ℕ) (at : Located) → cell_at w o k ≡ Found at
       → (((h : ℕ) × Alive t w o h at.object) ⊎ LiveVariable t w o at.object) × (slice_get at.object.cells k ≡ Some at.cell)
   found-either o k at found =

@@ -1,5 +1,5 @@
--- This file is about leaving several lexical regions. The source closes them one by one, newest first, and the heap store
--- closes all of them at once, until a given number stays open.
+-- This file is about leaving several lexical regions. The source closes lexical regions one by one, newest first, and the
+-- heap store closes all of them at once, until the requested number stays open.
 use Rattle.std.proofs.Common.{◌≡◌, ℕ, zero, suc, ◌+◌, ◌*◌, ◌≤◌, Bool, true, false, List, [], ◌∷◌, set, Option, None, Some, refl, sym, ap, subst, ◌∙◌, inl, inr, arith}
 use Rattle.std.specs.Prelude.{◌≢◌, nat_le, if◌then◌else◌, slice_get}
 use Rattle.std.proofs.lemmas.Bool.{cases_Bool, cond-true, cond-false, le-leb}

@@ -119,7 +119,7 @@ module _ {t : Tables} {w : World} {s : StoreState} (related : Related t w s) whe
         ]
   ]
 
-  -- An object that is found is an object of the heap store, or the object of a variable.
+  -- An object that a lookup in the source's heap state finds is an object of the heap store, or the object of a variable.
   pub object-lives : (o : ℕ) (x : Object) → object_at w o ≡ Found x → Lives o x
   object-lives o x found = let (there, live) = live-found o x found in live-either related o x there live
 

@@ -1,6 +1,6 @@
 -- This file has examples: a stale pointer and a new one may be the same word. A block is freed, or its region is closed, and the heap
--- store reuses the address and the handle. The relation between the source's heap state and the heap store holds before and after, by
--- the lemmas on each request to the store.
+-- store reuses the address and the handle. The relation between the source's heap state and the heap store holds before and after
+-- each request to the store, by the lemmas on the requests.
 use Rattle.std.proofs.Common.{◌≡◌, ℕ, ◌+◌, ◌^◌, ◌<◌, ◌≤◌, length, true, false, List, [], ◌∷◌, None, Some, refl, ap, arith, inr}
 use Rattle.std.specs.Prelude.{◌==◌, if◌then◌else◌, slice_get}
 use Rattle.cyc_words.proofs.Options.{never_none_and_some}

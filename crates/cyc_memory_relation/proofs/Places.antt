@@ -116,7 +116,7 @@ before-more at zero (suc l) (a ∷ ks) kind found less =
     omega (arith, bytes, before-least (following a at) l ks)
 before-more at (suc k) (suc l) (a ∷ ks) kind found less = before-more (following a at) k l ks kind found (omega (arith, less))
 
--- An offset belongs to only one cell of an object.
+-- No two cells of an object have the same offset.
 pub one-place : (ks : List Kind) (k l : ℕ) → k < length ks → l < length ks → before k ks ≡ before l ks → k ≡ l
 one-place ks k l first second same =
     let (a, here) = slice_get_below ks k first in

@@ -1,5 +1,5 @@
--- This file is about the correspondence between the source's regions and the heap store's regions. It shows which facts about the
--- correspondence stay true when a region opens, closes or gets a block.
+-- This file is about the correspondence between the source's regions and the heap store's regions. The lemmas of this file show
+-- which facts about the correspondence stay true when a region opens, closes or gets a block.
 use Rattle.std.proofs.Common.{◌≡◌, ℕ, zero, suc, ◌<◌, Bool, true, false, List, [], ◌∷◌, ◌++◌, length, set, Option, None, Some, is_some, refl, sym, ap, subst, ◌∙◌, inl, inr}
 use Rattle.std.specs.Prelude.{◌≢◌, if◌then◌else◌, slice_get}
 use Rattle.std.proofs.lemmas.List.{map-append}

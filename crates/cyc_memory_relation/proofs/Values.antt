@@ -1,5 +1,5 @@
--- This file is about values and the machine words that represent them, and about cells and their bytes. It proves that such representations
--- still hold when the tables of objects and regions grow. It also has facts about equal words and equal bytes.
+-- This file is about values and the machine words that represent them, and about cells and their bytes. It proves that words and bytes
+-- still represent their values when the tables of objects and regions grow. This file also has facts about equal words and equal bytes.
 use Rattle.std.proofs.Common.{◌≡◌, ℕ, ◌+◌, ◌*◌, ◌%◌, ◌<◌, ◌≤◌, true, false, List, [], ◌∷◌, Option, None, Some, sym, ap, subst, ◌∙◌, arith, add-zero}
 use Rattle.cyc_words.proofs.Items.{slice_get_front}
 use Rattle.cyc_types.specs.declared.typed.Kind.{Kind}

@@ -101,10 +101,10 @@ pub fn starts_related()
         → 1 ≤ pages → pages ≤ MOST_PAGES → Related (first_tables globals) (first_world program input) (start pages memory) }
 {}
 
-/// A cell that the source finds belongs to an object of the heap store, or to a variable. If a pointer points to a cell of the store,
-/// then each word with bytes of the cell can be read. The bytes of a cell of the store represent the value stored in the cell. For a
-/// fat pointer, the cell is found by its offset in bytes. Writing a cell of the store preserves the relation between source and store
-/// if all other bytes of memory are unchanged.
+/// A cell that a lookup in the source's heap state finds is a cell of an object of the heap store, or of a variable. If a pointer
+/// points to a cell of the store, then each word with bytes of the cell can be read. The bytes of a cell of the store represent the
+/// value stored in the cell. For a fat pointer, the cell is found by its offset in bytes. Writing a cell of the store preserves the
+/// relation between source and store if all other bytes of memory are unchanged.
 pub fn cells_are_read_and_written()
     ensures either { (t : Tables) (w : World) (s : StoreState) (object offset : ℕ) (at : Located) → Related t w s → cell_at w object offset ≡ Found at
         → ((handle : ℕ) × Alive t w object handle at.object) ⊎ LiveVariable t w object at.object }
@@ -142,8 +142,8 @@ pub fn objects_are_made()
         → IsPartOf (with_row t (Placed c.address (kinds_of (blanks count kind)))) (length w.objects) 0 count c.address }
 {}
 
-/// The heap store is out of pages exactly if the number of pages that the source needs afterwards exceeds the
-/// store's pages; the store refuses a request for no other reason.
+/// The heap store is out of pages exactly if the number of pages that the source needs after the request
+/// exceeds the store's pages; the store refuses a request for no other reason.
 pub fn refusals_go_by_demand()
     ensures region { (t : Tables) (w : World) (s : StoreState) (number handle : ℕ) (r : Region) (cells : List Cell) → Related t w s
         → slice_get w.regions number ≡ Some r → has_home r ≡ true → slice_get t.handles number ≡ Some (Some handle) → is_size (block_size cells) ≡ true

@@ -1,10 +1,11 @@
 //! Finds the faults of names, types, regions and flow that remain in a text once its first fault is repaired.
 //!
-//! A function body with a fault is replaced by one that only throws an exception, and the remaining program is checked. Such a body is
-//! valid in any function. Each reported fault is a fault of the program, and no fault in one body follows from a fault in another. A
-//! function body that passed the type check is also replaced while the bodies after it are checked. Each function body is checked once,
-//! and once more before the flow check. All function bodies share the signatures, so after a fault in a signature no further fault is
-//! reported. The one exception is a missing or invalid `main`, which is replaced by a valid `main`.
+//! A function body with a fault is replaced by one that only throws an exception, and the remaining program is checked. A body that
+//! only throws an exception is valid in any function. Each reported fault is a fault of the program, and no fault in one body follows
+//! from a fault in another. A function body that passed the type check is also replaced while the bodies after it are checked. Each
+//! function body is checked once, and once more before the flow check. All function bodies share the signatures, so after a fault in a
+//! signature, other than that of `main`, no further fault is reported. The one fault of a signature after which further faults are
+//! reported is a missing or invalid `main`, since a valid `main` replaces it.
 //!
 //! If a text has no tokens or no syntax tree, the crate `cyc_rendering` reports the faults after the first one.
 
@@ -22,7 +23,7 @@ use std::alloc::{AllocError, Global};
 use std::mem::{ManuallyDrop, replace};
 
 /// The factor of a bound on how many tokens of function signatures are read again: each further type fault requires reading all
-/// signatures. The bound is this factor times the number of tokens of the text, plus `MOST_MORE`.
+/// signatures. The bound on the tokens read again is this factor times the number of tokens of the text, plus `MOST_MORE`.
 const MOST_TIMES: usize = 4;
 
 const MOST_MORE: usize = 4000;
@@ -82,7 +83,7 @@ struct Aside {
 struct Mended {
     alloc: Global,
     tree: Tree,
-    /// The exception that the replacing bodies throw.
+    /// The exception that is thrown by the function bodies that replace faulty or already checked ones.
     exception: Name,
     /// The index of the first declaration that is still to be checked.
     next: usize,
@@ -127,8 +128,8 @@ impl Mended {
         })
     }
 
-    /// Returns the statements that replace the body of a function. They throw an exception, so no path reaches the end of the body, and
-    /// they need no result.
+    /// Returns the statements that replace the body of a function. The replacing statements throw an exception, so no path reaches the
+    /// end of the body, and no result is needed.
     fn thrown(&self, span: Span) -> Result<Vec<Item>, AllocError> {
         let mut items = Vec::new(self.alloc);
         items.push(Item::Statement {
@@ -219,7 +220,7 @@ impl Mended {
         }
     }
 
-    /// Changes the syntax tree into that of a program without this fault. Returns true if this was possible.
+    /// Changes the syntax tree into that of a program without the given fault. Returns true if the tree could be changed in this way.
     fn mend(&mut self, fault: Fault) -> Result<bool, AllocError> {
         if fault.code == Code::BadMain {
             return self.put_main(fault);
@@ -293,8 +294,8 @@ fn tell_bodies(
     }
 }
 
-/// Returns the faults of a text after this first one, at most twenty, in the order in which they would be reported if each were repaired.
-/// If memory runs out, the list ends early.
+/// Returns at most twenty faults of a text after the given first one. The order of these faults is that in which the compiler would
+/// report them if the user repaired each in turn. If the compiler runs out of memory, the list of faults ends early.
 pub fn refusals_after(alloc: Global, text: &[u8], first: Fault) -> Vec<Refusal> {
     let mut reported = Vec::new(alloc);
     match first.code {

@@ -1,4 +1,4 @@
--- The equality of types as a Boolean test agrees with the one that the code computes.
+-- The equality of types that the specification defines as a Boolean test agrees with the equality that the checker's code computes.
 use Rattle.std.proofs.Common.{◌≡◌, Bool, true, ◌&&◌, nat_eq, IsTrue, ◌↔◌, List, [], ◌∷◌, refl, subst}
 use Rattle.std.proofs.lemmas.Bool.{eq-eqb, and_from}
 use Rattle.cyc_words.proofs.Booleans.{same_tests}
@@ -27,6 +27,6 @@ ty_eq-refl (Handle r) = region_eq-refl r
 ty_eq-refl (Key r) = region_eq-refl r
 ty_eq-refl (Struct n rs) = and_from (nat_eq n n) (regions_eq rs rs) (eq-eqb n n refl) (regions_eq-refl rs)
 
--- If the code decides the equality of two types correctly, its result equals that of the specified test.
+-- If the checker's code decides the equality of two types correctly, its result equals that of the specified test.
 pub same_types : (t u : Ty) (b : Bool) → IsTrue b ↔ (t ≡ u) → b ≡ ty_eq t u
 same_types t u b d = same_tests b (ty_eq t u) (λ h. subst (λ z. ty_eq t z ≡ true) (d.0 h) (ty_eq-refl t)) (λ h. d.1 (ty_eq-true t u h))

@@ -1,4 +1,4 @@
-//! The part of a typed operand that the typing rules use: the type of its value.
+//! The type of a typed operand's value, which is all that the typing rules use of the operand.
 ghost use Rattle.std.specs.Prelude.{◌≡◌, IfOk};
 ghost use Rattle.cyc_types.specs.Types.{Value};
 ghost use Rattle.cyc_types.specs.TypeView.{view_ty, view_value_type};

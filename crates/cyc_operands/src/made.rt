@@ -9,7 +9,8 @@ use cyc_types::Ty;
 use cyc_types::typed::Initial;
 use std::alloc::Global;
 
-/// The initial value of a new object, the object's type, the kind of the pointer to it, and the checked requirements on them.
+/// The initial value of a new object, the object's type, the pointer kind (`*`, `@` or `?`) of the pointer to it, and the
+/// checked requirements on them.
 #[derive(Drop)]
 pub struct Made {
     pub settled: Settled,

@@ -26,7 +26,7 @@ use Rattle.cyc_pagestore.specs.inside.Usage.{Counts, IsUsage}
 use Rattle.cyc_pagestore.proofs.Taking.{stored-few}
 use Rattle.cyc_pagestore.proofs.Storing.{root-inside}
 
--- If the handles of regions are distinct, then no earlier region has the handle of the last one.
+-- If the handles of a list of regions are distinct, then no region before the last one has the last one's handle.
 fresh-last : (rs : List Home) (r : Home) → AreDistinct handle_of (rs ++ r ∷ []) → lookup handle_of rs r.handle ≡ None
 fresh-last [] r distinct = refl
 fresh-last (q ∷ rs) r distinct =
@@ -172,7 +172,7 @@ module _ (x : TableState) (lexicals : List ℕ) (classes : List ClassSlots) (b :
         ∙ (ap (λ p. (row_at s.table.rows.items p).filled) (newest-is s.table lexicals classes b s.kept root r named) ∙ filled-is s.table lexicals classes b s.kept root r named)
 
     module _ (made : Block) (c : Blocks) (noted : c ≡ blocks_of (made_in (plain_store b) h made)) where
-      -- After an allocation, the region of the handle is the old region with the new block.
+      -- After an allocation, the region with the given handle has the blocks that it had before, and the new block.
       found-here : (q : Home) → lookup handle_of c.regions h ≡ Some q → q ≡ with_block made r
       found-here q found = same_from_some (sym found ∙ (ap (λ (d : Blocks). lookup handle_of d.regions h) noted ∙ lookup-changed_same handle_of (with_block made) (λ z. refl) b.regions h r named))
 

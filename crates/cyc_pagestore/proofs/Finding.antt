@@ -28,7 +28,7 @@ use Rattle.cyc_pagestore.proofs.Taking.{same-size}
 use Rattle.cyc_pagestore.proofs.Storing.{rows-all, row-read, stored-held, live-marked}
 use Rattle.cyc_pagestore.proofs.Cutting.{words-all}
 
--- If a handle is valid in one of two equal stores, then the other store has a region for the handle.
+-- If a store has a region for a handle, then a store that equals it has a region for the handle too.
 pub region-of : (v w : Stored) (h : ℕ) → v ≡ w → is_some (lookup handle_of w.blocks.regions h) ≡ true → (r : Home) × (lookup handle_of v.blocks.regions h ≡ Some r)
 region-of v w h same some = some_there (lookup handle_of v.blocks.regions h) (subst (λ (u : Stored). is_some (lookup handle_of u.blocks.regions h) ≡ true) (sym same) some)
 

@@ -106,7 +106,7 @@ module _ (x : TableState) (lexicals : List ℕ) (classes : List ClassSlots) (b :
         abbrev front : List ℕ
         front = page ∷ removed adds.takes.order page
 
-        -- The row of the region's first page after the free pages are relinked.
+        -- The row of the page table (the data of one page) for the region's first page, after the free pages are relinked.
         abbrev its : Row
         its = row_at (relinked x.rows front) root
 

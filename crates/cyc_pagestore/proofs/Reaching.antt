@@ -16,8 +16,8 @@ reach-empty serial owner fill page none = elim (cases_eq (serial page) (serial (
   | inr ne ↦ reach-stale serial owner fill page ne
 ]
 
--- A page's live words are the same if the end of its filled words, its owner (its region's first page) and
--- both pages' serials are unchanged.
+-- If the end of a page's filled words, its owner (its region's first page), its serial and its owner's
+-- serial are unchanged, so are its live words.
 pub reach-same : (serial owner fill serial' owner' fill' : ℕ → ℕ) (page : ℕ) → owner' page ≡ owner page → serial' page ≡ serial page → serial' (owner page) ≡ serial (owner page) → fill' page ≡ fill page
     → reach_by serial' owner' fill' page ≡ reach_by serial owner fill page
 reach-same serial owner fill serial' owner' fill' page o s t f = λ j. if s j == (ap serial' o ∙ t) j then f j else 0

@@ -1,4 +1,4 @@
--- Facts about lists of pages, and about table rows that are linked along them.
+-- Facts about lists of pages, and about rows of the page table (each the data of one page) that are linked along these lists.
 use Rattle.std.proofs.Common.{◌≡◌, ◌≢◌, ℕ, ◌<◌, List, [], ◌∷◌, length, length-set, refl, sym, ap, subst, ◌∙◌, inl, inr, get_or-set_same, get_or-set_other}
 use Rattle.std.specs.Prelude.{◌⊎◌}
 use Rattle.std.specs.List.{AllByRecursion}
@@ -108,7 +108,7 @@ module _ (rows : List Row) where
   later-is : (x : ℕ) (xs : List ℕ) (p : ℕ) → (p ≡ x → ⊥) → row_at (relinked rows (x ∷ xs)) p ≡ row_at (relinked rows xs) p
   later-is x xs p other = get_or-set_other (relinked rows xs) x p (record (row_at rows x) { next = head_or_none xs }) (free_row NONE) other
 
-  -- Relinking the rows of a page list replaces only the link of each row.
+  -- Relinking the rows (each the data of one page) of a list of pages replaces only the link in each row.
   pub relinked-row : (xs : List ℕ) (p : ℕ) → AllByRecursion (λ x. x < length rows) xs → (next : ℕ) × (row_at (relinked rows xs) p ≡ record (row_at rows p) { next = next })
   relinked-row [] p within = ((row_at rows p).next, refl)
   relinked-row (x ∷ xs) p within = elim (cases_eq p x) [

@@ -81,7 +81,7 @@ module _ (x : TableState) (lexicals : List ℕ) (classes : List ClassSlots) (b :
   pub live-count : length x.live ≡ 1024 * length x.rows
   live-count = ap length (sym s.reads.live) ∙ s.kept.whole.live ∙ ap (λ rs. PAGE_WORDS * length rs) s.reads.rows
 
-  -- If a table state has as many words, marks and rows as another, then some page table in memory gives the same results when read.
+  -- If a table state has as many words, marks of live words and rows as another, then some page table in memory is read as this state.
   abbrev pub same-size : (y : TableState) → length y.words ≡ length x.words → length y.live ≡ length x.live → length y.rows ≡ length x.rows → (v : PageTable) × Reads v y
   same-size y words live rows =
       made s.table y

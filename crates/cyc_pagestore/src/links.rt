@@ -26,7 +26,7 @@ impl Roster {
         Roster {}
     }
 
-    /// Returns the rows of the page table after a step, for contracts only.
+    /// Returns the rows of the page table (each the data of one page) after the given change to them, for contracts only.
     pub(crate) fn with(_before: &Roster, _step: &Step) -> Roster
         ensures { result.links ≡ after _before.now.links _step.now }
     {

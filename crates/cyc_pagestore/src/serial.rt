@@ -7,8 +7,8 @@ ghost use Rattle.cyc_pagestore.specs.inside.Live.{IsWhole, AreNewer, AreOne, Rea
 use cyc_rawpages::{PageNo, Pool};
 use cyc_store::PAGE_WORDS;
 
-/// Returns the number of a page's words that are live by its fill mark: all filled words if the page has the serial of its owner (its
-/// region's first page), else none.
+/// Returns the number of a page's words that are live by its fill mark (the end of its filled words). All filled words are live if
+/// the page has the serial of its owner (its region's first page), else none.
 #[inline]
 pub(crate) fn reach(pool: &Pool, page: u32) -> u32
     requires whole { IsWhole pool.now }

@@ -32,7 +32,7 @@ pub record Begins (leaves : Yield) (ts left : List Symbol) : Type 0 where
   pub left_are : left ≡ symbol ∷ back
   pub front : Front done ts back
 
--- Says that a result exists that satisfies the condition `Post` if no symbol is left after it.
+-- Says that some result exists that satisfies the condition `Post` in the case that no symbol is left unread.
 pub record Possible {A : Type 0} (Post : A → Yield → List Symbol → Type 0) : Type 0 where
   pub value : A
   pub leaves : Yield
@@ -69,7 +69,7 @@ IsLimit TooLong = Unit {0}
 pub record Gives {A : Type 0} (p : Parser A) (Post : A → Yield → List Symbol → Type 0) (ts : List Symbol) : Type 0 where
   pub gives : (rest : List Symbol) (x : A) → p ts ≡ Ok (x, rest) → Derived ts rest (λ ls. Post x ls rest)
   pub goes : (e : Refusal) → p ts ≡ Err e → IsLimit e.reason → Completed Post ts e.left
-  -- If the parser's input has no symbols, then a result exists that satisfies the condition `Post`.
+  -- If the parser's input has no symbols, then some result exists that satisfies the condition `Post` with no symbol left unread.
   pub ending : ts ≡ [] → Possible Post
 
 -- Says that the leaves read earlier, followed by the symbols read now, are the yield of the parser's result, and that the result

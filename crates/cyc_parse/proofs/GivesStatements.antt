@@ -95,7 +95,7 @@ module _ (room d : ℕ) (inner : Nested) (fits : Fits (suc room) d) (h : Stateme
   abbrev condition : Expression → Yield
   condition c = leaf_of d (Mark signs.LeftParen) ∷ (yields.expression (suc d) c ++ leaf_of (suc d) (Mark signs.RightParen) ∷ [])
 
-  -- The yield of a parenthesized condition, followed by more symbols, can be regrouped.
+  -- The concatenation of the yield of a parenthesized condition and further leaves can be bracketed in another way, by associativity.
   regroup : (l : Leaf) (c : Expression) (zs : Yield) → l ∷ (condition c ++ zs) ≡ l ∷ leaf_of d (Mark signs.LeftParen) ∷ (yields.expression (suc d) c ++ leaf_of (suc d) (Mark signs.RightParen) ∷ zs)
   regroup l c zs = ap (λ (ys : Yield). l ∷ leaf_of d (Mark signs.LeftParen) ∷ ys) (append_assoc (yields.expression (suc d) c) (leaf_of (suc d) (Mark signs.RightParen) ∷ []) zs)
 

@@ -47,8 +47,7 @@ pub operator_comes : (k : ℕ) (t : Option Terminal) (o : BinaryOperator) → So
 operator_comes k None o h = absurd (cc)
 operator_comes k (Some t) o h = refl
 
--- If an operator's precedence level is not among the permitted levels, then the operator belongs to
--- none of the levels that the parser skips.
+-- If an operator's precedence level is not above `below` and at most `most`, then the operator belongs to no level between these bounds.
 
 operator_beyond : (o : Option BinaryOperator) (below most k : ℕ) → level_within below most o ≡ None → below < k → k ≤ most → of_level k o ≡ None
 operator_beyond None below most k none lt le = refl

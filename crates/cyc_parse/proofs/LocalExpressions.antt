@@ -31,7 +31,7 @@ IsOpenInitial i = ends_in_name i ≡ true
 -- ---- chains of binary operators
 
 module _ {c : Bool} (operand : Parser Expression) (h : Runs c Anything operand) (k : ℕ) where
-  -- The parser has bounded lookahead after an operator.
+  -- After a binary operator, the parser of its right operand and of the further operators of its level has bounded lookahead.
   operand_runs : (left : ℕ) → Runs false Anything (operations operand k left) → Tolerates Anything (operations operand k left) → (o : BinaryOperator) (p : Place)
       → Runs c Anything (bind operand (λ e. bind (operations operand k left) (λ os. pure (ThenOperation o p e os))))
   operand_runs left more tolerates o p = open_then_runs h (λ e. open_then_runs more (λ os. pure_runs _) (λ os _. tolerates_pure _ tt)) (λ e _. tolerates_then _ _ tolerates (λ os. pure_runs _) (λ os _. tolerates_pure _ tt))
@@ -74,7 +74,7 @@ module _ {c : Bool} (unary : Parser Expression) (h : Runs c Anything unary) wher
     pub runs : (e : Expression) → Runs false Anything (climb unary k e)
     pub tolerates : (e : Expression) → Tolerates Anything (climb unary k e)
 
-  -- An operand of the next precedence level has bounded lookahead.
+  -- The parser of an operand of the next precedence level has bounded lookahead.
   operand_climbs : (k : ℕ) → Climbs k → Runs c Anything (bind unary (climb unary k))
   operand_climbs k below = open_then_runs h (λ e. below.runs e) (λ e _. below.tolerates e)
 
@@ -161,7 +161,7 @@ less_operator ts none less = absurd (is_none (ap (operator_at 4) (sym less) ∙ 
     is_none e = cc
 
 module _ (unary : Parser Expression) where
-  -- The chains of the level of `<`, and of all looser levels, have bounded lookahead.
+  -- A parser that extends an operand by the operators of the level of `<`, and possibly of looser levels, never stops before a `<`.
   climb_halts : (j : ℕ) (e : Expression) → Halts (climb unary (suc (suc (suc (suc j)))) e)
   unfolding climb
   climb_halts zero e ts rest y h =
@@ -174,7 +174,8 @@ module _ (unary : Parser Expression) where
       (λ os e'. operations_halt (bind unary (climb unary (suc (suc (suc (suc j)))))) (suc (suc (suc (suc (suc j))))) NoLess (λ ts no _. no)
       (halts_then unary (climb unary (suc (suc (suc (suc j))))) (λ x. climb_halts j x)) max_items w.mid rest os (climb_halts j e ts w.mid w.value w.first) e') w.second
 
--- If a parser never stops before `<`, then it looks at no further symbol.
+-- If a parser with bounded lookahead never stops before `<`, then the exception for `<` is not needed: it looks at no symbol after the one
+-- at which it stops.
 local_if_halts : {A : Type 0} {c : Bool} {Open : A → Type 0} {p : Parser A} → Runs c Open p → Halts p → Local c p
 local_if_halts {A} {Open = Open} {p = p} h halts = record { suffix = h.suffix; shorter = h.shorter; ends = h.ends; agrees = λ front a b. agree (front ++ a) a b (h.agrees front a b) }
   where
@@ -308,7 +309,8 @@ module _ (room : ℕ) (inner : Nested) (h : NestedRuns inner) where
   from_name_alone_runs : (s : Named) → Runs false IsOpenInitial (from_name_alone s)
   from_name_alone_runs s = then_runs (with_postfixes_run (from_name_run s)) (λ e. pure_runs _)
 
-  -- The parser decides by the symbol after `<`, which may be the first symbol after the common part of two inputs.
+  -- After `new` and a name, the parser decides by the symbol after `<`. Two inputs that agree up to this `<` may
+  -- differ in the symbol after it.
   by_region : (s : Named) (t : Symbol) (a b : List Symbol) (x y : Bool) → IsLess t → region_next a ≡ x → region_next b ≡ y
       → Agrees IsOpenInitial a b (cond x (with_regions s) (from_name_alone s) (t ∷ a)) (cond y (with_regions s) (from_name_alone s) (t ∷ b))
   by_region s t a b true true less e e' = (with_regions_run s).agrees (t ∷ []) a b
@@ -379,11 +381,11 @@ module _ (room : ℕ) (inner : Nested) (h : NestedRuns inner) where
   unfolding initial
   initial_runs = choose_runs initial_by_runs
 
-  -- An expression that begins with a given name has bounded lookahead.
+  -- The parser of an expression that begins with a given name has bounded lookahead.
   pub named_run : (x : Named) → Local false (bind (with_postfixes room inner (from_name room inner x)) (climb (unary room inner) 10))
   named_run x = then_runs (with_postfixes_run (from_name_run x)) (λ e. climb_all_runs (unary room inner) (opens_as (λ e _. tt) unary_runs) e)
 
-  -- After its keyword, a conversion to a low byte has bounded lookahead.
+  -- After its keyword, the parser of a conversion to a low byte has bounded lookahead.
   pub low_byte_run : (p : Place) → Local true (bind (with_postfixes room inner (bind (group room inner) (λ e. pure (LowByteOf p e)))) (climb (unary room inner) 10))
   low_byte_run p = then_runs (with_postfixes_run (then_runs group_runs (λ e. pure_runs _))) (λ e. climb_all_runs (unary room inner) (opens_as (λ e _. tt) unary_runs) e)
 

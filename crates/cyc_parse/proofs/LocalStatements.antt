@@ -146,8 +146,8 @@ module _ (room : ℕ) (inner : Nested) (h : StatementsRun inner) where
   let_by_runs (Some (Word words.NewDynamicRegion)) = dynamic_region_runs
   let_by_runs _ = unexpected_runs
 
-  -- The symbol after `char` decides if a block item is a declaration. In both cases the parser reads the symbol after `char`, so a block
-  -- item needs only one symbol of lookahead.
+  -- The symbol after `char` decides if a block item is a declaration or an expression statement. The parser of either kind of item reads
+  -- that symbol too, so a block item needs only one symbol of lookahead.
 
   abbrev low_byte_from : Place → Parser Statement
   low_byte_from p = bind (bind (bind (with_postfixes room (nested room) (bind (group room (nested room)) (λ e. pure (LowByteOf p e)))) (climb (unary room (nested room)) 10)) (assignment room (nested room))) (following room inner)

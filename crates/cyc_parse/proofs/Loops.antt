@@ -1,4 +1,4 @@
--- A list that the code reads in a loop equals the list that the specified parser returns.
+-- A list that the parser's code reads in a loop equals the list that the specified parser returns.
 use Rattle.std.proofs.Common.{◌≡◌, ℕ, suc, ◌+◌, ◌-◌, ◌<◌, ◌≤◌, Bool, true, false, cond, List, [], ◌∷◌, ◌++◌, map, Option, Some, None, option_map, Ok, Err, refl, sym, ap, ◌∙◌, arith}
 use Rattle.cyc_syntax.specs.declared.tokens.Sign.TheVariants as signs
 use Rattle.cyc_syntax.specs.Symbols.{Terminal, Symbol}
@@ -86,7 +86,7 @@ module _ {X Y B : Type 0} (view : X → Y) (add : Y → B → B) where
         let step : many (count - i) ts ≡ Ok (b, us) = ap (λ (n : ℕ). many n ts) k ∙ h in
         sym so_far ∙ ap (with_front front) step
 
--- Says that the list that the code builds in its loop equals the list that the specified parser returns.
+-- Says that the list that the parser's code builds in its loop equals the list that the specified parser returns.
 module _ {X Y B : Type 0} (view : X → Y) (add : Y → B → B) (nothing : B) (show : List X → B) (shows : (xs : List X) → onto view add xs nothing ≡ show xs)
     (one : Parser (Option Y)) (many : ℕ → Parser B) (steps : Steps add (pure nothing) one many) where
   pub ends_as : (front : List X) (count i : ℕ) (ts us : List Symbol) (read : Option X) (whole : Outcome B) → i < count → one ts ≡ Ok (option_map view read, us) → read ≡ None

@@ -19,7 +19,7 @@ judge-within [] ts outcome all = refl
 judge-within (l ∷ ls) [] outcome all = refl
 judge-within (l ∷ ls) (t ∷ ts) outcome (one, more) = rw (le-nat_lt max_nesting l.nesting one.nesting, le-nat_lt max_items l.item one.item) (judge-within ls ts outcome more)
 
--- If a conditional rejection does not occur, then the outcome is the original one.
+-- If a conditional expression gives either a rejection or an outcome, and its value is a success, then this outcome is that success.
 chosen : {A : Type 0} (b : Bool) (e : Refusal) (outcome : Outcome A) (y : A × List Symbol) → cond b (Err e) outcome ≡ Ok y → outcome ≡ Ok y
 chosen true e outcome y h = cc
 chosen false e outcome y h = h

@@ -343,7 +343,8 @@ front-length (leaf ∷ xs) ts rest (t, more, e, is_leaf, front) = subst (λ (s :
 pub yield_reads : {A : Type 0} {q : Parser A} {x : A} {xs ys : Yield} {Ends : List Symbol → Type 0} → xs ≡ ys → Reads q x xs Ends → Reads q x ys Ends
 yield_reads {q = q} {x = x} {Ends = Ends} same h = subst (λ (zs : Yield). Reads q x zs Ends) same h
 
--- If some leaves of a yield stand between two other leaves, they may be regrouped with the symbols after them.
+-- A statement `Reads` about leaves between a left and a right leaf still holds if the concatenation with the
+-- leaves after them is bracketed differently.
 pub between_then : {A : Type 0} {q : Parser A} {x : A} {Ends : List Symbol → Type 0} (l r : Leaf) (xs ys : Yield) → Reads q x ((l ∷ (xs ++ r ∷ [])) ++ ys) Ends → Reads q x (l ∷ (xs ++ r ∷ ys)) Ends
 between_then l r xs ys h = yield_reads (ap (λ (zs : Yield). l ∷ zs) (append_assoc xs (r ∷ []) ys)) h
 

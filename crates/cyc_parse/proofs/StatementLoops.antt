@@ -1,5 +1,5 @@
--- The code reads the lists of block items and of catch clauses in a loop; the lists equal the results of
--- the specified parsers of these lists.
+-- The parser's code reads the lists of block items and of catch clauses in a loop; the lists equal the
+-- results of the specified parsers of these lists.
 use Rattle.std.proofs.Common.{◌≡◌, ℕ, suc, ◌+◌, ◌-◌, ◌<◌, true, false, List, [], ◌∷◌, Option, Some, None, option_map, Ok, Err, refl, sym, ap, ◌∙◌, arith}
 use Rattle.cyc_syntax.specs.declared.tokens.Keyword.TheVariants as words
 use Rattle.cyc_syntax.specs.declared.tokens.Sign.TheVariants as signs

@@ -1,4 +1,4 @@
-//! This file has lists to which elements are appended one at a time.
+//! This file has the function that appends one element to a list and lets the list grow.
 ghost use Rattle.std.specs.Prelude.{◌≡◌, [], ◌∷◌, ◌++◌, is_ok, if◌then◌else◌};
 
 use std::alloc::AllocError;

@@ -166,7 +166,7 @@ impl<'a> Parser<'a> {
         self.climb_above(room, 0, level, first)
     }
 
-    /// Extends an operand by the operators of the precedence levels above `below`, up to another given level. Levels to
+    /// Extends an operand by the operators of the precedence levels above `below`, up to the level `most`. Levels to
     /// which the next operator does not belong are skipped.
     #[cycle(expression)]
     fn climb_above(

@@ -13,7 +13,7 @@ struct Begun {
     address: u32,
 }
 
-/// Returns true if code that belongs to the function with the given index continues the current function.
+/// Returns true if code made for the function with index `number` continues the code of the function `begun`.
 fn goes_on(begun: Option<Begun>, number: Option<usize>) -> bool {
     match (begun, number) {
         (Some(begun), Some(number)) => begun.number == number,

@@ -26,7 +26,7 @@ impl fmt::Display for Named {
     }
 }
 
-/// The beginning of a part of the program text that comes from another file.
+/// The beginning of a stretch of the program text that comes from another file.
 #[derive(Drop)]
 pub struct Elsewhere {
     /// The first line of a stretch of program text that comes from another file, as a line number in the whole text.
@@ -149,7 +149,7 @@ impl From<AllocError> for Unread {
     }
 }
 
-/// Appends an element to a list, or reports that memory ran out.
+/// Appends an element to a list, or reports that memory for the list cannot be allocated.
 fn put<T: Drop>(list: &mut Vec<T>, item: T) -> Result<(), Unread> {
     match list.push(item) {
         Ok(()) => Ok(()),

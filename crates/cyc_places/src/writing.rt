@@ -25,7 +25,7 @@ pub fn sum_of(bytes: &[u8]) -> u64 {
     sum
 }
 
-/// The beginning of a part of the program text that comes from another file.
+/// The beginning of a stretch of the program text that comes from another file.
 #[derive(Clone, Copy)]
 pub struct Part<'a> {
     /// The first line of a stretch of program text that comes from another file, as a line number in the whole text.

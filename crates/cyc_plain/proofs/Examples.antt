@@ -23,7 +23,7 @@ use Rattle.cyc_plain.specs.inside.State.{State, output_of, input_of, status_of, 
 use Rattle.cyc_plain.specs.inside.Step.{run, start}
 use Rattle.cyc_plain.proofs.RunLaws.{zeros}
 
--- Returns an example function with four slots, this many parameters and one result word.
+-- Returns an example function with four slots, the given number of parameters and one result word.
 abbrev function : ℕ → List Instruction → Routine
 function parameters code = record {
   name = record { line = 1; column = 1 };
@@ -343,8 +343,8 @@ no_global_after_the_last = refl
 
 -- ---- requests to the store
 
--- Returns the status after the code makes requests to a new store of three pages, which chooses the same address for each
--- block and the same handle for each region.
+-- Returns the status of a run whose code makes requests to a new store of three pages. This store chooses the same
+-- address for each block and the same handle for each region.
 abbrev after_calls : (steps : ℕ) → List Instruction → Status
 after_calls steps code =
     status_of (run (program code) 3 1 (record { contents = λ (slot : ℕ). 0; base = 0; serving = record { handle = 7; address = 0x20000000; memory = λ (address : ℕ). 0 } }) steps (start (program code) 0x7ffff000 empty_store []))
@@ -417,7 +417,7 @@ block_is_freed_once = refl
 
 -- ---- handlers
 
--- Returns the status of a program with exception handlers, if at most two calls may be active.
+-- Returns the status, after `steps` steps, of a program with exception handlers, if at most two calls may be active.
 abbrev after_throws : (steps : ℕ) → List Instruction → List Instruction → Status
 after_throws steps code callee =
     status_of (run (record { functions = function 0 code ∷ function 0 callee ∷ []; globals = []; main = 0 }) 3 2 zeros steps

@@ -10,7 +10,8 @@ use Rattle.cyc_plain.specs.inside.State.{Configuration, State, Running, Ended, p
 use Rattle.cyc_plain.specs.inside.Step.{Choice, advanced, performed, executed, instruction_at, is_within, limit_of, limited, Step}
 use Rattle.cyc_plain.proofs.RunLaws.{limited-within, limited-full}
 
--- The state after `Enter` is within the limit for `Enter` exactly if the state after the call would be within the run's limit.
+-- `Enter` checks for stack space for a call. The state after `Enter` is within the limit for `Enter` exactly if the state
+-- after the checked call would be within the run's limit.
 pub as_called : (program : Program) (pages calls : ℕ) (choice other : Choice) (c : Configuration) (function arguments count result : ℕ)
     → is_within pages (limit_of (Some (instructions.Enter function)) calls) (performed program choice c (instructions.Enter function))
     ≡ is_within pages calls (performed program other c (instructions.Call function arguments count result))

@@ -40,7 +40,7 @@ over_within pages calls ending output input = and_from _ _ (le-leb 0 pages (omeg
 pub stuck_within : (pages calls : ℕ) (output input : List ℕ) → is_within pages calls (Stuck output input) ≡ true
 stuck_within pages calls output input = and_from _ _ (le-leb 0 pages (omega arith)) (le-leb 0 calls (omega arith))
 
--- A state that is within a limit of calls is within every higher limit. No instruction raises the limit.
+-- A state that is within a limit of calls is within every higher limit. No instruction raises the limit of calls.
 pub within_more : (pages less more : ℕ) (s : State) → less ≤ more → is_within pages less s ≡ true → is_within pages more s ≡ true
 within_more pages less more s over within =
     let (paged, some) = and_parts (nat_le (demand s) pages) (nat_le (depth s) less) within in
@@ -62,14 +62,14 @@ limit_free (instructions.Enter function) calls free = absurd (let e : false ≡ 
 limit_free i calls free = refl
 
 -- A step to a state within the limits on pages and active calls is the same as on the machine without limits. A
--- step to a state beyond these limits ends the run instead.
+-- step to a state beyond the limits on pages and active calls ends the run instead.
 pub limited-within : (pages calls : ℕ) (old new : State) → is_within pages calls new ≡ true → limited pages calls old new ≡ new
 limited-within pages calls old new within = ap (λ (b : Bool). if b then new else Ended Full (output_of old) (input_of old)) within
 
 pub limited-full : (pages calls : ℕ) (old new : State) → is_within pages calls new ≡ false → limited pages calls old new ≡ Ended Full (output_of old) (input_of old)
 limited-full pages calls old new within = ap (λ (b : Bool). if b then new else Ended Full (output_of old) (input_of old)) within
 
--- A property holds after a limited step if it holds after the step without limits and in the state that ends the run.
+-- A property holds after a step with limits if it holds after the same step without limits and in the state that ends the run.
 pub limited_either : (P : State → Type 0) (pages calls : ℕ) (old new : State) → (is_within pages calls new ≡ true → P new) → P (Ended Full (output_of old) (input_of old)) → P (limited pages calls old new)
 limited_either P pages calls old new first second = go (is_within pages calls new) refl
   where

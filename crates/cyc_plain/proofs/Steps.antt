@@ -1,4 +1,4 @@
--- The effect of a step of the plain machine whose instruction is known.
+-- The effect of a step of the plain machine that executes a given instruction.
 use Rattle.std.proofs.Common.{◌≡◌, ℕ, zero, suc, ◌+◌, ◌<◌, true, List, [], ◌∷◌, length, map, Option, Some, None, slice_get, sym, ap, subst, ◌∙◌, arith, inl, inr}
 use Rattle.std.specs.Prelude.{Contains}
 use Rattle.std.proofs.lemmas.Bool.{cases_lt}
@@ -20,8 +20,8 @@ use Rattle.cyc_plain.specs.inside.State.{Configuration, State, Running, Ended, p
 use Rattle.cyc_plain.specs.inside.Step.{Choice, IsAllowed, IsServed, MayServe, call_in, call_of, served_to, asks, performed, executed, instruction_at, step, is_within, limit_of, limit_at, limited, limited_step, Step}
 use Rattle.cyc_plain.proofs.RunLaws.{limited-within, over_within}
 
--- If the next instruction is known, and its effect stays within the limits for every choice that the step may
--- make, each step has this effect.
+-- Each step has the effect of the instruction that comes next, if this effect stays within the limits for
+-- every choice that the step may make.
 pub step_performs : (program : Program) (pages calls : ℕ) (c : Configuration) (i : Instruction) (new : State)
     → instruction_at program (place_of (Running c)) ≡ Some i
     → ((choice : Choice) → is_within pages (limit_of (Some i) calls) (performed program choice c i) ≡ true)
@@ -33,8 +33,8 @@ step_performs program pages calls c i new at within (choice, allowed, is) =
     let limit : limit_at program (Running c) calls ≡ limit_of (Some i) calls = ap (λ (o : Option Instruction). limit_of o calls) at in
     (choice, allowed, is ∙ ap (λ (n : ℕ). limited pages n (Running c) (step program choice (Running c))) limit ∙ limited-within pages (limit_of (Some i) calls) (Running c) (step program choice (Running c)) keeps ∙ does)
 
--- The module shows that a step with a request to the store serves it by a handle, an address and memory
--- contents that the store allows. If memory is lacking, the step ends the run.
+-- The module shows that a step with a request to the store serves it by a handle, an address and memory contents that the store allows. If
+-- the store lacks memory for the request's result, the step ends the run.
 module _ (program : Program) (pages calls : ℕ) (c : Configuration) (request : Request) (new : State)
     (at : instruction_at program (place_of (Running c)) ≡ Some (instructions.Ask request)) (stepped : Step program pages calls (Running c) new) where
   abbrev call : Call

@@ -17,8 +17,8 @@ use Rattle.cyc_plain.specs.inside.Step.{Choice, IsAllowed, IsServed, MayServe, c
 use Rattle.cyc_plain.specs.inside.Uniform.{AsksNoRoom, UniformStep, uniform_machine}
 use Rattle.cyc_plain.proofs.RunLaws.{limited-within, over_within, lawful}
 
--- On the machine whose limit of calls never changes, each step has the effect of its known instruction, if every choice keeps this
--- effect within the limits.
+-- On the machine whose limit of calls never changes, each step has the effect of the instruction that comes next. This effect must
+-- be within the limits for every choice that the step may make.
 pub uniform_performs : (program : Program) (pages calls : ℕ) (c : Configuration) (i : Instruction) (new : State)
     → instruction_at program (place_of (Running c)) ≡ Some i
     → ((choice : Choice) → is_within pages calls (performed program choice c i) ≡ true)
@@ -30,7 +30,7 @@ uniform_performs program pages calls c i new at within (choice, allowed, is) =
     (choice, allowed, is ∙ limited-within pages calls (Running c) (step program choice (Running c)) keeps ∙ does)
 
 -- The module concerns requests on the machine whose limit of calls never changes. A step serves the request by a handle, an address and
--- memory contents that the store allows, or ends the run if memory is lacking.
+-- memory contents that the store allows. If the store lacks memory for the request's result, the step ends the run.
 module _ (program : Program) (pages calls : ℕ) (c : Configuration) (request : Request) (new : State)
     (at : instruction_at program (place_of (Running c)) ≡ Some (instructions.Ask request)) (stepped : UniformStep program pages calls (Running c) new) where
   abbrev call : Call

@@ -96,7 +96,7 @@ pub fn room_is_not_asked()
 {}
 
 /// A request that the store does not refuse gets a handle, an address and memory contents that the store allows, and the run
-/// continues with the result. If memory is lacking, the run ends.
+/// continues with the result. If the store lacks memory for the request's result, the run ends.
 pub fn calls_are_served()
     ensures served { (program : Program) (pages calls : ℕ) (c : Configuration) (request : Request) (new : State)
         → instruction_at program (place_of (state.Running c)) ≡ Some (instructions.Ask request)
@@ -112,9 +112,9 @@ pub fn calls_are_served()
         → new ≡ state.Ended Full c.output c.input }
 {}
 
-/// A run of a well-formed program gets stuck only in four cases. The program divides by 0, accesses an address without a word, or makes a
-/// request that the store refuses for a reason other than lack of memory. In the fourth case, an instruction closes a handler, throws, or
-/// returns from a function with handlers.
+/// A run of a well-formed program gets stuck only in four cases. A run gets stuck at a division by 0, or at an access to an address
+/// without a word. A run gets stuck at a request that the store refuses for a reason other than lack of memory. A run may get stuck at an
+/// instruction that closes a handler, throws, or returns from a function with handlers.
 pub fn few_get_stuck()
     ensures { (program : Program) (pages calls count base : ℕ) (store : StoreState) (input : List ℕ) (old new : State) → IsWellFormed program
         → Run (machine program pages calls) count (start program base store input) old → status_of old ≡ simulation.Running

@@ -12,11 +12,11 @@ use std::marker::Model;
 pub struct Function {
     /// The position of the function's name in the source.
     pub name: Span,
-    /// The number of the function's parameter words.
+    /// How many machine words the function's parameters have.
     pub parameters: usize,
-    /// The number of the function's result words.
+    /// How many machine words the function's result has.
     pub results: usize,
-    /// The number of the function's slots.
+    /// How many slots the function has.
     pub slots: usize,
     /// The most words that the function's stack frame may have.
     pub frame_count: usize,
@@ -24,7 +24,7 @@ pub struct Function {
 }
 
 /// A plain program is well-formed, its numbers are words, and the size of its code is within the limit. The code that constructs a
-/// `Plain` proves this invariant, and every user may rely on it.
+/// `Plain` proves the invariant of this type, and every user may rely on the invariant.
 #[derive(Drop)]
 pub struct Plain {
     functions: Vec<Function>,

@@ -123,7 +123,7 @@ impl PlainStore {
         let _most = self.table.most;
     }
 
-    /// Returns true if a word belongs to a live block.
+    /// Returns true if the word with this index in the store's array lies in a live block.
     #[inline]
     fn is_live(&self, word: usize) -> bool
         requires { word < length self.now.words }
@@ -137,7 +137,7 @@ impl PlainStore {
         self.table.live[word]
     }
 
-    /// Returns the index of the word at an address, if the word belongs to a live block.
+    /// Returns the index of the word at an address, if the word lies in a live block.
     #[inline]
     fn word_of(&self, address: u32) -> Option<usize>
         ensures { MatchOption result (word_at (held_of self.now) address ≡ None)

@@ -1,5 +1,5 @@
--- The check that a fact follows from a list of known facts succeeds for each fact in the list. The check also succeeds
--- for the additional fact (such as one from a branch) that is passed with the list.
+-- The check that a fact follows from a list of known facts succeeds for each fact in the list. The check that a fact
+-- follows from known facts also accepts the additional fact (such as one from a branch) that is passed with the list.
 use Rattle.std.proofs.Common.{◌≡◌, ℕ, zero, suc, true, ◌||◌, List, [], ◌∷◌, Option, Some, None, slice_get, ap, ◌∙◌}
 use Rattle.std.proofs.lemmas.Bool.{or_left, or_right}
 use Rattle.cyc_propagation.specs.declared.fact.Fact.{Fact}

@@ -177,8 +177,8 @@ module _ (program simplified : Program) (replaced : (function : ℕ) → IsRepla
           fact_free between (scene_of program after_store) slots_free free_left (λ other. refl) fact suits
           (ap (memory_at program after_store) (sym is_address) ∙ memory_after address ∙ memory_there program c address word before there ∙ ap Some is_word))
 
-    -- A return writes the result slots of the newest call that waits for its callee. Afterwards the facts known about the slots of
-    -- this call are true.
+    -- A return writes the result slots of the newest call that waits for its callee. After the return, the facts known about the
+    -- slots of the call that waited are true.
     returned : (value results : ℕ) (frames : List Frame) → results ≡ (routine_at program c.active.function).results → AreWaiting c.active.function frames → IsKnown (returns c value results frames)
     returned value results [] same calls = tt
     returned value results (f ∷ frames) same (stands, rest) =
@@ -230,7 +230,8 @@ module _ (program simplified : Program) (replaced : (function : ℕ) → IsRepla
       };
     }
 
-    -- No fact is required where an exception reaches an exception handler, so `Try` keeps all facts of the tables true.
+    -- No fact is required where an exception reaches a handler. So executing `Try`, which opens a handler, leaves all
+    -- facts that the tables state for code positions true.
     tried : (first handler : ℕ) (handlers : List Handler) → AreOpen c.active.function handlers → here ≡ []
         → ((new : Scene) → AreTrueIn new (facts_in c.active.function (c.active.next + 1))) → ((new : Scene) → AreTrueIn new (facts_in c.active.function handler))
         → IsKnown (tries choice c first handler handlers)

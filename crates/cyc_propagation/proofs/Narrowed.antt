@@ -1,4 +1,5 @@
--- If a function passes the check with some facts required at later jump targets, it also passes with fewer facts required there.
+-- If the check of a function's known facts succeeds with some facts required at later jump targets, it also succeeds with fewer
+-- facts required there.
 use Rattle.std.proofs.Common.{◌≡◌, ℕ, zero, suc, ◌+◌, ◌<◌, ◌≤◌, Bool, true, List, [], ◌∷◌, length, Option, Some, None, slice_get, refl, sym, ap, subst, ◌∙◌, arith, inl, inr}
 use Rattle.std.specs.Prelude.{◌&&◌, ◌==◌, remove}
 use Rattle.std.proofs.lemmas.Bool.{and_from, and_parts, or_cases, or_left, or_right}
@@ -92,7 +93,7 @@ module _ (program : Program) (pinned : List Bool) (a b : ℕ → Option (List Fa
       ap (λ (o : Option (List Fact)). entered_or o (following (facts_at program pinned b code k))) (narrowed.same (suc k) below)
       ∙ ap (λ (facts : List Fact). entered_or (a (suc k)) (following facts)) (facts_narrowed code k (omega (arith, below)))
 
--- Instructions that were checked stay checked if jump targets after them require fewer facts.
+-- If the check of known facts succeeded for some instructions, it still succeeds for them when jump targets after them require fewer facts.
 pub walked_narrowed : (program : Program) (r : Routine) (pinned : List Bool) (old new : List Entry) (count : ℕ) (code : List Instruction) (facts : List Fact)
     → AreNarrowed count (entry_in old) (entry_in new) → AreWalked program r pinned old count code facts → AreWalked program r pinned new count code facts
 walked_narrowed program r pinned old new count code facts narrowed are = record {

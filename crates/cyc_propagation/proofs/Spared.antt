@@ -38,14 +38,15 @@ use Rattle.cyc_propagation.proofs.Rooms.{HaveRoom, room_less, room_after_it}
 
 -- ---- one instruction
 
--- If an instruction has a property, and a jump to the next instruction has it, then so has the instruction's replacement.
+-- If an instruction has a property, and a jump to the next instruction has it, then so has the replacement, which is one
+-- of these two instructions.
 spared_either : (P : Instruction → Type 0) (slots : ℕ → ℕ) (room index : ℕ) (i : Instruction) → P i → ((function : ℕ) → i ≡ instructions.Enter function → P (nothing_at index))
     → P (spared_instruction slots room index i)
 spared_either P slots room index (instructions.Enter function) has nothing =
     cond_both (nat_lt room (suc (slots function))) (instructions.Enter function) (nothing_at index) P (λ asks. has) (λ known. nothing function refl)
 spared_either P slots room index i has nothing = has
 
--- If no stack space is known to be available, no instruction is replaced.
+-- If no stack space is known to be available at an instruction, dropping redundant checks for stack space leaves the instruction unchanged.
 unspared_instruction : (slots : ℕ → ℕ) (index : ℕ) (i : Instruction) → spared_instruction slots 0 index i ≡ i
 unspared_instruction slots index (instructions.Enter function) =
     cond-true (nat_lt 0 (suc (slots function))) (instructions.Enter function) (nothing_at index) (lt-ltb 0 (suc (slots function)) (omega arith))
@@ -105,7 +106,7 @@ module _ (program spared : Program) (are : AreSpared program spared) where
     abbrev stands : CodePlace
     stands = place_of (Running c)
 
-    -- `IsStepOf` says that the original program has a step with an equal result, after which the facts about stack space are true.
+    -- `IsStepOf` says that some nondeterministic choice that the original program allows leads it in one step to the given state.
     record IsStepOf (next : State) : Type 0 where
       pub other : Choice
       pub may : IsAllowed program (Running c) other
@@ -123,8 +124,8 @@ module _ (program spared : Program) (are : AreSpared program spared) where
       high = subst (λ (n : ℕ). base + 4 * n ≤ c.active.base) (ap (λ (r : Routine). r.slots) (spared_at function).same) may.high;
     }
 
-    -- If the original program and the one with dropped stack checks have the same instruction, each of its steps is a step of the original
-    -- program.
+    -- Where the original program and the one with dropped stack checks have equal instructions, each step of the latter is a step of the
+    -- former.
     by_itself : instruction_at spared stands ≡ instruction_at program stands → IsStepOf (limited_step spared pages calls choice (Running c))
     by_itself same = record {
       other = choice;

@@ -1,5 +1,5 @@
--- If the table of known stack space passes its check, the code made from it has no redundant checks for stack space. The
--- same holds for functions and programs with this code.
+-- If the table of known stack space passes its check, the code made from it has no redundant checks for stack space.
+-- Functions and programs with code made from checked tables have no redundant checks for stack space either.
 use Rattle.std.proofs.Common.{◌≡◌, ℕ, suc, ◌+◌, ◌^◌, ◌<◌, ◌≤◌, true, ◌&&◌, ◌||◌, List, [], ◌∷◌, ◌++◌, length, map, Some, slice_get, refl, sym, ap, subst, ◌∙◌, arith, inl, inr}
 use Rattle.std.specs.Prelude.{◌==◌, slice_index_or}
 use Rattle.std.proofs.lemmas.Bool.{cases_lt, and_parts, eqb-true, leb-true, or_cases, false≢true}

@@ -1,5 +1,6 @@
 -- If the known facts are true, a replacement has exactly the effect of the original instruction, for every nondeterministic choice. A
--- choice gives unspecified words, the address of a callee's slots, and the store's results.
+-- nondeterministic choice of the machine gives unspecified words, the address of a callee's slots, and the results of the store (the
+-- heap of regions).
 use Rattle.std.proofs.Common.{◌≡◌, ℕ, ◌%◌, ◌++◌, Bool, true, false, List, [], ◌∷◌, Option, Some, None, refl, sym, ap, ◌∙◌}
 use Rattle.std.specs.Prelude.{◌==◌, if◌then◌else◌}
 use Rattle.std.proofs.lemmas.Bool.{eqb-true, cond_both}

@@ -1,5 +1,5 @@
--- The slots in facts are free (their address is not taken), and the constants in facts fit a machine word. The same
--- holds for the operands that facts supply as replacements.
+-- The slots in facts are free (their address is not taken), and the constants in facts fit a machine word. The
+-- operands that facts supply as replacements are also free slots, or constants that fit a machine word.
 use Rattle.std.proofs.Common.{◌≡◌, ℕ, ◌<◌, Bool, true, ◌&&◌, List, [], ◌∷◌, length, Option, Some, None, sym, ap, ◌∙◌, inl, inr}
 use Rattle.std.specs.Prelude.{not, unwrap_or}
 use Rattle.std.proofs.lemmas.Bool.{and_parts, cases_lt, cond_both, false≢true}

@@ -74,7 +74,8 @@ next_last code count last i at is index next j there below led = elim (cases_lt 
       led_within last count i next (subst (λ (x : Instruction). leads x count next ≡ true) alike (subst (λ (k : ℕ). leads j k next ≡ true) same led))
 ]
 
--- If no instruction up to a position jumps or falls through past it, this is the last reachable position.
+-- If none of the first `count` instructions jumps or falls through past a position below `count`, then no
+-- instruction up to this position does.
 pub last_found : (code : List Instruction) (count last : ℕ) → IsLastOf code count last → last < count → IsLast code last
 last_found code count last is beyond index next i at below led = is index next i at (omega (arith, below, beyond)) led
 

@@ -128,7 +128,8 @@ module _ (program : Program) (r : Routine) (pinned : List Bool) (entries : List 
       let known = known_at index in
       (put_at known index (length r.code) i, are.each index i at (below_from_slice_get r.code index i at), put_not_larger known index (length r.code) i)))
 
--- If the optimizer checks and simplifies one more instruction, `AreWalked` holds for one more instruction.
+-- If the optimizer checks and simplifies one more instruction, `AreWalked` (the first instructions of a
+-- function are checked and simplified) holds for one more instruction.
 pub stepped : (program : Program) (r : Routine) (pinned : List Bool) (entries : List Entry) (count : ℕ) (code : List Instruction) (facts next : List Fact) (i : Instruction)
     → AreWalked program r pinned entries count code facts → At r count i → (made : Instruction) (all : List Instruction) → made ≡ put_at facts count (length r.code) i
     → all ≡ code ++ made ∷ [] → is_checked_at program pinned (entry_in entries) facts made count ≡ true

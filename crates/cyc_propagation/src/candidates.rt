@@ -78,7 +78,7 @@ fn see_global(seen: Seen, global: usize) -> Seen {
     }
 }
 
-/// Returns the record of the slots copied to and the globals loaded or stored so far, updated for one more instruction.
+/// Returns the record of slots that received copied words, and of globals loaded or stored so far, updated for one more instruction.
 fn seen_after(seen: Seen, instruction: &Instruction) -> Seen {
     match *instruction {
         Instruction::Move {

@@ -10,7 +10,7 @@ use crate::outcomes::{copied, is_not, is_test, made, suited, suits, tested, trut
 use cyc_plain::{BinaryOperator, Instruction, Operand, Plain};
 use std::alloc::AllocError;
 
-/// Adds a fact to a list. If the list is full, the oldest fact is dropped.
+/// Adds a fact to a list. If the list of facts has its maximal length, the oldest fact is dropped.
 pub(crate) fn remember(facts: &mut Vec<Fact>, fact: Fact) -> Result<(), AllocError>
     ensures { OnOk result (facts.new.items ≡ facts_of.remembered facts.old.items (Some fact)) }
 {

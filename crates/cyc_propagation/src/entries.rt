@@ -1,5 +1,5 @@
-//! Searches for the facts at the positions of code regions with loops. The search is unverified: the checker validates the
-//! facts that it finds.
+//! Searches for the facts at the positions of code regions with loops. The search for facts is unverified: a verified
+//! check then accepts or rejects the facts that it finds.
 ghost use Rattle.std.specs.Prelude.{◌<◌, length};
 
 use crate::entry::{Entry, come_to, enter, no_entries};
@@ -310,7 +310,7 @@ impl Search {
     }
 
     /// Finds the facts at each jump target of a code region. If a search limited to one pass changes facts at a loop header, only the facts
-    /// at loop headers are retained. The checking traversal then finds the facts at the other jump targets.
+    /// at loop headers are retained. The traversal that checks the facts then finds those at jump targets other than loop headers.
     fn settle(
         &mut self,
         plain: &Plain,

@@ -13,8 +13,8 @@ use cyc_plain::Instruction;
 use std::alloc::{AllocError, Global};
 use std::mem;
 
-/// The maximal number of facts recorded for a jump target. This maximum is greater than elsewhere, since
-/// each jump on a path to the target may add one fact.
+/// The maximal number of facts recorded for a jump target. More facts are recorded for a jump target
+/// than for other positions, since each jump on a path to the target may add one fact.
 const MOST_ENTRY_FACTS: usize = 4 * MOST_FACTS;
 
 /// The facts at a position in the code.
@@ -57,7 +57,7 @@ pub(crate) fn may_jump(entries: &[Entry], target: usize, facts: &[Fact], more: O
     }
 }
 
-/// Returns true if the next position is no jump target, or if all facts that it requires are known.
+/// Returns true if the next position is no jump target, or if all facts required at the next position are known.
 pub(crate) fn may_go_on(entries: &[Entry], next: usize, facts: &[Fact]) -> bool
     ensures { result ≡ table.may_go_on (entries_of.entry_in entries.now next) facts.now None }
 {

@@ -1,7 +1,7 @@
 //! A fact about slots and memory, known at a position of the code.
 use cyc_plain::{BinaryOperator, Comparison, Operand};
 
-/// The most facts that are remembered. When one more is added, the oldest is dropped.
+/// The maximal length of a list of known facts. When a fact is added to a list of this length, the oldest fact is dropped.
 pub(crate) const MOST_FACTS: usize = 24;
 
 /// A fact is a property of the words in a function's slots and in memory.

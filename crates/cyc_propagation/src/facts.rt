@@ -239,7 +239,7 @@ impl Facts {
         self.slots = slots_after(self.slots, &self.facts, slots, count);
     }
 
-    /// Adds a fact to the known facts. If the list is full, the oldest fact is dropped.
+    /// Adds a fact to the known facts. If the list of facts has its maximal length, the oldest fact is dropped.
     pub(crate) fn add(&mut self, fact: Fact) -> Result<(), AllocError>
         ensures { OnOk result (self.new ≡ facts_of.remembered self.old (Some fact)) }
     {

@@ -572,7 +572,8 @@ fn simplified_otherwise(facts: &Facts, instruction: Instruction) -> Instruction
     }
 }
 
-/// Returns an instruction that has exactly the effect of the original if the facts are true. If no fact is known, it is the original.
+/// Returns an instruction that has exactly the effect of the original if the facts are true. If no fact is known, the returned
+/// instruction is the original.
 pub(crate) fn simplified_instruction(facts: &Facts, instruction: Instruction) -> Instruction
     ensures { result ≡ replacement.simplified_instruction facts.now instruction }
 {

@@ -107,8 +107,8 @@ fn spared_instruction(
     }
 }
 
-/// Lowers the stack space known at a code position to at most `room`. Returns true if the stack space known at that position was
-/// already at most `room`.
+/// Lowers the stack space known at a code position to at most `room`. Returns true if the stack space known at this code
+/// position was at most `room` before.
 fn restrict(rooms: &mut Vec<usize>, place: usize, room: usize) -> bool {
     if let Some(known) = rooms.get_mut(place) {
         if room < *known {
@@ -119,7 +119,8 @@ fn restrict(rooms: &mut Vec<usize>, place: usize, room: usize) -> bool {
     true
 }
 
-/// Makes one pass over the code. Returns true if the pass leaves the stack space known at each target of a backward jump unchanged.
+/// Makes one pass over the code, which lowers the stack space known at code positions. Returns true if the pass leaves the stack
+/// space known at each target of a backward jump unchanged.
 fn go_through(plain: &Plain, code: &[Instruction], rooms: &mut Vec<usize>) -> bool {
     let mut is_settled = true;
     for index in 0..code.len() {
@@ -136,8 +137,9 @@ fn go_through(plain: &Plain, code: &[Instruction], rooms: &mut Vec<usize>) -> bo
     is_settled
 }
 
-/// Finds the stack space known at each position of the code. The search is unverified: the table is checked before use. A position
-/// that is not reached yet has the maximal stack space, so that it does not limit its successors.
+/// Finds the stack space known at each position of the code. The search for the known stack space is unverified: the table that it
+/// returns is checked before use. A position that the search has not reached yet has the maximal stack space, so that it does not
+/// limit its successors.
 fn rooms_of(alloc: Global, plain: &Plain, code: &[Instruction]) -> Result<Vec<usize>, AllocError> {
     let mut rooms = vec![in alloc; MOST_ROOM; code.len()]?;
     restrict(&mut rooms, 0, 0);

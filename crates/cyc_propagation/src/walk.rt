@@ -108,8 +108,8 @@ fn is_merged(
     index < target && (!is_unreached(facts) && (!is_searched || is_end(code, target)))
 }
 
-/// Keeps only those facts of a jump target that are also known at the jump. Returns true if all facts that the target then requires are
-/// known at the jump.
+/// Keeps only those facts of a jump target that are also known at the jump. Returns true if all facts that the jump target still
+/// requires are known at the jump.
 fn merge_at(
     entries: &mut Vec<Entry>,
     code: &[Instruction],
@@ -127,7 +127,7 @@ fn merge_at(
 }
 
 /// Keeps only those facts of an instruction's forward jump target that are also known at the instruction. Returns true if the facts
-/// known at the instruction then imply those that the target requires.
+/// known at the instruction imply those that its jump target still requires.
 #[tactic(auto, using(crate::proofs::Entered::jumped_well))]
 fn merge_target(
     entries: &mut Vec<Entry>,
@@ -190,7 +190,7 @@ fn begin_at(
 }
 
 /// Keeps only those facts of a jump target that are also known after the previous instruction. Returns true if all facts that the
-/// target then requires are known after the previous instruction.
+/// jump target still requires are known after the previous instruction.
 fn join(
     entries: &mut Vec<Entry>,
     code: &[Instruction],
@@ -234,8 +234,8 @@ fn come_next(
     Ok(is_known)
 }
 
-/// Updates the facts at the position after an instruction. Returns true if control does not continue there, or if only known
-/// facts are required there.
+/// Updates the facts at the position after an instruction. Returns true if control does not continue at the position after
+/// the instruction, or if only known facts are required at this position.
 fn continue_after(
     setting: &Setting,
     search: &mut Search,
@@ -391,7 +391,8 @@ fn walked(
     Ok(Some(code))
 }
 
-/// Returns the simplified code of a function. A search with a single pass over each code region is tried first, since it mostly succeeds.
+/// Returns the simplified code of a function. A search for facts with a single pass over each code region is tried first, since it mostly
+/// succeeds.
 pub(crate) fn walked_soon(
     alloc: Global,
     plain: &Plain,

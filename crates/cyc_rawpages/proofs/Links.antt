@@ -1,4 +1,4 @@
--- Lemmas about the free pages and the chains of a pool, computed from the links in its headers.
+-- Lemmas about a pool's free pages and its chains (lists of linked pages), computed from the links in the page headers.
 use Rattle.std.proofs.Common.{◌≡◌, ℕ, ◌<◌, List, [], ◌∷◌, ◌++◌, length, set, drop, refl, sym, ap, subst, ◌∙◌, arith, inl, inr, length-set, get_or-set_same, get_or-set_other}
 use Rattle.std.specs.Prelude.{◌==◌, if◌then◌else◌}
 use Rattle.std.specs.List.{AllByRecursion}
@@ -41,7 +41,7 @@ runs-same : (next new : ℕ → ℕ) (x : ℕ) (xs : List ℕ) (last : ℕ) → 
 runs-same next new x [] last all r = r
 runs-same next new x (y ∷ ys) last all r = (all.0 ∙ r.0, runs-same next new y ys last all.1 r.1)
 
--- The last page of a chain is an element of the chain.
+-- The last page of a chain (a list of linked pages) is an element of the chain.
 last-in : (P : ℕ → Type 0) (next : ℕ → ℕ) (x : ℕ) (xs : List ℕ) (last : ℕ) → AllByRecursion P (x ∷ xs) → Runs next x xs last → P last
 last-in P next x [] last all r = subst P r all.0
 last-in P next x (y ∷ ys) last all r = last-in P next y ys last all.1 r.1

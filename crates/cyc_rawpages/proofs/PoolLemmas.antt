@@ -92,7 +92,7 @@ module _ (pages : ℕ) (raw : Parts) (first : ℕ) (l : Lists) (is : IsPool page
     pub tail-there : tail < pages
     tail-there = (tail-in pages (field_of raw NEXT) (field_of raw TAIL) first l is.up head rest below e).0
 
-    -- The pool's invariant holds after a chain is freed.
+    -- The pool's invariant holds after all pages of a chain (a list of linked pages) are freed.
     pub pool-given : IsPool pages (headed raw (header_at tail NEXT) first) head (after l (Given head))
     pool-given = record {
       whole = length-set raw.heads (header_at tail NEXT) first ∙ is.whole;
@@ -111,7 +111,7 @@ module _ (pages : ℕ) (raw : Parts) (first : ℕ) (l : Lists) (is : IsPool page
         let chain = subst (IsChain pages (field_of raw NEXT) (field_of raw TAIL) is.up.home head) e (is.up.run head below) in
         free-given pages (chain_at l.chains head) l.free (subst (AllByRecursion (λ page. page < pages)) (sym e) (all-map (head ∷ rest) (λ page here. here.0) chain.3))
 
-    -- The pool's invariant holds after a page is appended to a chain.
+    -- The pool's invariant holds after a page is appended to a chain (a list of linked pages).
     pub pool-pushed : (page : ℕ) → page < pages → (head ≡ page → ⊥) → chain_at l.chains page ≡ page ∷ []
         → IsPool pages (headed (headed raw (header_at tail NEXT) page) (header_at head TAIL) page) first (after l (Pushed head page))
     pool-pushed page there ne alone =

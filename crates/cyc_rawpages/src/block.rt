@@ -7,7 +7,8 @@ use super::cells::{Cells, Lease, Start, acquire, release};
 use std::alloc::{AllocError, Global};
 use std::marker::Model;
 
-/// The minimum number of words to which 0 is written at once.
+/// The number of words, counted from the written one on, that become initialised when an uninitialised word is written, unless the block
+/// ends earlier.
 const STRETCH: usize = 1024;
 
 /// One block of memory with `heads` header words at its start, followed by `words` further words. Dropping the struct frees the block.

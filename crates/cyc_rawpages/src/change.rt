@@ -1,4 +1,4 @@
-//! The effect of a call of a pool function on the free pages and the chains of the pool.
+//! The effect of a call of a pool function on the free pages of the pool and on its chains (lists of linked pages).
 
 /// A change of the free pages of a pool and of its chains (lists of linked pages), made by one call of a pool function.
 #[derive(Clone, Copy)]
@@ -7,8 +7,8 @@ pub enum Change {
     Made(u32),
     /// The first free page was taken from the list of free pages.
     Taken(u32),
-    /// A page was appended to the chain with the given head.
+    /// A page was appended to the chain of linked pages with the given head (first page).
     Pushed(u32, u32),
-    /// The chain with the given head was freed.
+    /// All pages of the chain of linked pages with the given head (first page) were freed.
     Given(u32),
 }

@@ -105,7 +105,7 @@ impl Pool {
         Some(PageNo { number: page })
     }
 
-    /// Appends a page, which must be a chain of one page, to another chain.
+    /// Appends a page, which must be the only page of its chain of linked pages, to another chain.
     pub fn chain_push(&mut self, head: PageNo, page: PageNo)
         requires head { (head.number < self.old.pages) × IsHead self.old.chains head.number }
         requires page { (page.number < self.old.pages) × (chain_at self.old.chains page.number ≡ page.number ∷ []) }

@@ -1,4 +1,4 @@
-//! The free pages and the chains of a pool, as contracts and proofs see them, without a representation at run time.
+//! The free pages of a pool and its chains (lists of linked pages), as contracts and proofs see them, without a representation at run time.
 
 ghost use Rattle.std.specs.Prelude.{◌≡◌};
 ghost use Rattle.std.specs.Borrow.{ftrue};

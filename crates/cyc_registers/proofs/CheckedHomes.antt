@@ -298,8 +298,8 @@ module _ (program : Program) (r : Routine) (masks live holders : List ℕ) (call
           ]
         ]
           where
-            -- A slot that is in a register and not in memory is not live in an exception handler. If such a slot
-            -- is live at a code position or in a handler opened there, it is live at the position.
+            -- A slot that is in a register and not in memory is not live in an exception handler. If the slot is
+            -- live at a code position or in a handler opened there, it is live at the position.
             now : (slot k : ℕ) → HasRegister hs slot k → is_kept (home_of hs slot) ≡ false → IsLiveLater program r slot index → IsLiveAt program r slot index
             now slot k its unkept (inl here) = here
             now slot k its unkept (inr (at_try, first, handler, at, wanted)) = absurd (both_ways (is_kept (home_of hs slot)) unkept ((each slot).clause at_try first handler at wanted))

@@ -1,4 +1,4 @@
--- Sets of slots that contain at most one of the slots that share a register, before and after an instruction.
+-- Before and after an instruction, a set of slots contains at most one slot of each group of slots that share a register.
 use Rattle.std.proofs.Common.{◌≡◌, ℕ, true, List, inl, inr}
 use Rattle.std.specs.Prelude.{◌==◌, bit_and, bit_or}
 use Rattle.std.specs.Int.{bit_at}

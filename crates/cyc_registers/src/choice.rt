@@ -327,7 +327,7 @@ impl Registers {
                 .is_none()
     }
 
-    /// Returns the home (a register, memory or both) of a slot that saves most, among those still available.
+    /// Returns, among the homes (a register, memory or both) that are still available for a slot, the one that saves most execution cost.
     fn offer(&self, candidate: &Candidate) -> Offer {
         if self.is_near_preserved(candidate) {
             return self.preserved_offer(candidate);

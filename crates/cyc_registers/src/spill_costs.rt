@@ -385,7 +385,7 @@ pub(crate) struct Choice {
 }
 
 impl Choice {
-    /// Returns true if a slot for which a register has these savings becomes a candidate for registers.
+    /// Returns true if a slot becomes a candidate for registers when a register saves the given execution cost for it.
     pub(crate) fn takes(&mut self, gain: u64) -> bool {
         if gain >= self.least {
             return true;

@@ -123,7 +123,7 @@ fn heads_after(heads: usize, starts: usize, depth: Depth, byte: u8) -> usize {
     }
 }
 
-/// Returns the byte offsets at which the declarations of a text begin, in order.
+/// Returns the byte offsets at which the declarations of a text begin, in ascending order.
 pub fn starts_of(alloc: Global, text: &[u8]) -> Result<Vec<usize>, AllocError> {
     let mut starts = Vec::new(alloc);
     let mut depth = Depth {

@@ -55,7 +55,8 @@ fn item_up_to(tokens: &[Token], last: usize) -> &[Token] {
     tokens.get(start..=last).unwrap_or(&[])
 }
 
-/// Returns the type with which some tokens begin, as the type of the object that a pointer points to, and the tokens after this type.
+/// Returns the type at the beginning of a list of tokens, as the type of the object that a pointer points to, and the tokens after
+/// this type.
 fn target_of<'t>(tokens: &'t [Token]) -> Option<(Target<'t>, &'t [Token])> {
     match tokens {
         [first, rest @ ..] if first.kind == TokenKind::Keyword(Keyword::Int) => {

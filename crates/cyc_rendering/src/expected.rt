@@ -160,7 +160,7 @@ struct Trial {
 impl Trial {
     fn new(alloc: Global, before: &[u8]) -> Result<Trial, AllocError> {
         let mut text = Vec::from_slice(alloc, part_before(alloc, before)?)?;
-        // The line feed ends a comment with which the text before the position may end.
+        // A line feed is added after the text. The text may end within a comment, which the line feed ends.
         text.push(b'\n')?;
         let mut line = 1_u32;
         for byte in &text {

@@ -174,7 +174,8 @@ fn advice_on_move(text: &[u8], fault: Fault, span: Span) -> &'static str {
     }
 }
 
-/// Returns the advice on a fault whose variable became empty or locked at a known position, if it is more specific than the code's advice.
+/// Returns the advice on a fault whose variable became empty or locked at a known position, if it is more specific than the advice for the
+/// fault's code.
 pub fn advice_for(text: &[u8], fault: Fault, cause: Cause) -> Option<&'static str> {
     match (cause.change, fault.code) {
         (Change::Moved, Code::EmptyVariable) => Some(advice_on_move(text, fault, cause.span)),

@@ -70,7 +70,7 @@ fn is_by_token(text: &[u8], fault: Fault, token: &[u8]) -> bool {
     }
 }
 
-/// Writes the words of the message on a fault, with the name that they mention.
+/// Writes the words of the message on a fault with this code; in these words, the given name stands in place of `%`.
 #[derive(Drop)]
 pub(crate) struct Naming<'a> {
     pub(crate) code: Code,

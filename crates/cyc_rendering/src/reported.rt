@@ -12,14 +12,14 @@ pub struct Refusal {
     pub fault: Fault,
     /// The lines that explain the violated rule. A hint in the last line replaces the hint for the fault's code.
     pub words: Option<Vec<u8>>,
-    /// The source position that the explaining lines mention, if they mention one.
+    /// The source position that the lines of the explanation name, if they name one.
     pub place: Option<Span>,
     /// The source position where the empty or locked variable became empty or locked.
     pub cause: Option<Cause>,
 }
 
 impl Refusal {
-    /// Returns a fault of names, types or regions, with the lines of its explanation and the source position that these lines mention.
+    /// Returns a fault of names, types or regions, with the lines of its explanation and the source position that these lines name.
     pub fn explained(fault: Fault, words: Option<Vec<u8>>, place: Option<Span>) -> Refusal {
         Refusal {
             fault,

@@ -25,14 +25,14 @@ impl fmt::Display for WarningText<'_> {
     }
 }
 
-/// The warnings about an accepted text, in order. For each warning, `Display` writes its position, its text, and the source line with a
-/// marker under the position. If there are no warnings, `Display` writes nothing.
+/// The warnings about an accepted text, in the order in which they are written. For each warning, `Display` writes its position, its
+/// text, and the source line with a marker under the position. If there are no warnings, `Display` writes nothing.
 #[derive(Drop)]
 pub struct Warnings<'a> {
     /// The name of the source file.
     pub name: &'a str,
     pub text: &'a [u8],
-    /// The warnings that were found, in order.
+    /// The warnings that were found in the text, in the order in which they are written.
     pub found: &'a [Found],
 }
 

@@ -1,4 +1,5 @@
--- The declarations that the code finds in a program's tables of names agree with those that the typing rules find in lists of declarations.
+-- The declarations that the checker's code finds in a program's tables of names agree with those that the typing rules find in lists of
+-- declarations.
 use Rattle.std.proofs.Common.{◌≡◌, ℕ, ◌≤◌, ◌<◌, List, [], ◌∷◌, ◌++◌, length, map, drop, get_or, Option, Some, option_map, unwrap_or, refl, sym, ap, ◌∙◌}
 use Rattle.std.specs.List.{slice_get}
 use Rattle.std.proofs.lemmas.List.{map-append, length-map, drop_all}

@@ -1,5 +1,5 @@
--- contracts that other crates use: how the results of the code relate to the typing rules, the meanings of names, and the scope after a
--- block is left
+-- contracts that other crates use: how the results of the checker relate to the typing rules, the meanings of names, and the scope
+-- after a block is left
 pub mod Code
 pub mod Meanings
 pub mod Marks

@@ -22,7 +22,7 @@ use std::alloc::Global;
 /// reused for the check of the next function.
 #[derive(Drop)]
 pub struct Tables {
-    /// The region names known at the start of a function's body, except the name of the region that the body itself opens.
+    /// The region names in scope at the start of a function's body, except the name of the region that the body itself opens.
     pub names: RegionNames,
     taken: NameSet,
     locals: Locals,

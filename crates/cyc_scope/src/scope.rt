@@ -12,7 +12,8 @@ use cyc_types::{Kind, NameSet, Region, RegionNames, StructNames, Ty};
 use std::alloc::Global;
 use std::marker::Model;
 
-/// The size of a scope at some point of a function's body. The function `leave` removes the names that came into scope since that point.
+/// The size that a scope had at some point of a function's body. The function `leave` uses this size to remove the names that came into
+/// scope after that point of the body.
 #[derive(Clone, Copy)]
 pub struct Mark {
     /// How many locals, region names and open scopes the scope has.
@@ -312,7 +313,7 @@ impl<'a> Scope<'a> {
         Ok(())
     }
 
-    /// Declares and opens the next region, whose name is already known.
+    /// Declares and opens the next region, to which `name_region` already gave a name.
     pub fn open_next(&mut self, kind: Kind) -> Result<(), Stop>
         ensures opened { OnOk result (self.new ≡ with_next_opened kind self.old) }
         ensures memory { IfErr result (λ e. e ≡ Memory) }
@@ -344,7 +345,7 @@ impl<'a> Scope<'a> {
         Ok(())
     }
 
-    /// Opens the region of a key.
+    /// Opens the given dynamic region, for which the function has a key.
     pub fn open_key(&mut self, region: Region) -> Result<(), Stop>
         ensures opened { OnOk result (self.new ≡ with_key_opened region self.old) }
         ensures memory { IfErr result (λ e. e ≡ Memory) }
@@ -368,7 +369,7 @@ impl<'a> Scope<'a> {
         }
     }
 
-    /// Removes the names that came into scope since the mark (a record of the scope's size) was taken. The numbers of the
+    /// Removes the names that came into scope since the mark (a record of the scope's size) was taken. The indices of the
     /// removed locals and regions, and the removed region names, are not used for later declarations.
     pub fn leave(&mut self, mark: Mark)
         requires { IsInOrder (left_to mark self.old) }

@@ -43,7 +43,7 @@ impl From<Stop> for Fault {
     }
 }
 
-/// Returns the rejection with the given code at the given source position.
+/// Returns, as the reason why the type check stops, a fault with the given code at the given source position.
 pub fn refused(code: Code, span: Span) -> Stop
     ensures { result ≡ Refused (fault_at code (place_of_span span)) }
 {

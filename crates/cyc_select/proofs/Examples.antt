@@ -50,7 +50,7 @@ three_words_moved : lines_of (MoveWords 0 3 3 ∷ []) ≡ 6
 three_words_moved = refl
 
 -- Example: the lines that open a lexical region, allocate a block of two words in it and close it. Slot 0 holds
--- the region's handle, and slot 1 holds the number that is passed to close the region.
+-- the region's handle, and slot 1 holds the number of lexical regions that stay open when the region is closed.
 block_in_a_region : lines_of (Ask (OpenLexical 0) ∷ Ask (Allocate 2 (Slot 0) (Word 2)) ∷ Ask (CloseTo (Slot 1)) ∷ []) ≡ 14
 block_in_a_region = refl
 

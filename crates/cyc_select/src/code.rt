@@ -36,8 +36,8 @@ pub enum Line {
     Return,
 }
 
-/// A program as labelled code, well-formed and small enough for the machine's memory. The code that constructs a `Code` proves this
-/// invariant, and every user may rely on it.
+/// A program as labelled code, well-formed and small enough for the machine's memory. The code that constructs a `Code` proves that
+/// it is well-formed and small enough, and every user may rely on this.
 #[derive(Drop)]
 pub struct Code {
     lines: Vec<Line>,

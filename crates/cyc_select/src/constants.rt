@@ -27,7 +27,7 @@ pub const THIRD: u8 = 3;
 /// The register that holds the address of the current frame.
 pub const FRAME: u8 = STACK_POINTER;
 
-/// The register that holds the lowest frame address. If the current frame has this address, no further call is allowed.
+/// The register that holds the lowest frame address. If the current frame has the lowest frame address, no further call is allowed.
 pub const LOWEST: u8 = 30;
 
 /// The register that holds the address of the newest handler's record, or 0 if no handler is open.

@@ -128,8 +128,8 @@ fn selected(alloc: Global, plain: &Plain, frames: &Frames) -> Result<Code, Alloc
 /// The only error that `select` returns is lack of memory.
 pub fn select(alloc: Global, plain: &Plain, frames: &Frames) -> Result<Code, Fault>
     requires { AreFrames plain.now frames.now }
-    // Each MIPS line of the selected code is a line of the start code, or is assigned to one instruction of the program. The code behaves
-    // as the program does.
+    // Each MIPS line of the selected code is a line of the start code, or is assigned to one instruction of the program. The selected
+    // code behaves as the plain program does.
     ensures selected { IfOk result (λ code. IsCodeOf plain.now code) }
     // The data range of the selected code begins with the program's globals.
     ensures globals { IfOk result (λ code. code.globals ≡ plain.now.globals) }

@@ -1,5 +1,6 @@
 -- This file is about computing the number of machine words that a frame needs. The number of words that a list's first elements need,
--- combined with that of the remaining elements, is the number for the list. The same fact is proved for typed tree nodes that have lists.
+-- combined with that of the remaining elements, is the number for the list. That the words needed by list elements combine to those of
+-- the list is also proved for typed tree nodes that have lists.
 use Rattle.std.proofs.Common.{◌≡◌, ℕ, ◌+◌, ◌<◌, max, List, [], ◌∷◌, length, get_or, drop, map, Option, sym, ap, ◌∙◌, arith}
 use Rattle.std.proofs.lemmas.List.{drop_more}
 use Rattle.std.specs.declared.vec.Vec.{Vec}

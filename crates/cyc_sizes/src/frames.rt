@@ -70,7 +70,8 @@ pub fn words_at(place: &Dereference) -> usize
     }
 }
 
-/// Returns the number of machine words of the value of an operand, which always has a value.
+/// Returns the number of machine words of an operand's value; an operand is an expression that always yields a value, unlike the call of a
+/// function without a result.
 fn operand_words(value: &Expr) -> usize
     ensures { result ≡ operand_words (type_of (view_expression value.now)) }
 {
@@ -125,8 +126,9 @@ fn handle_words(placement: &Placement) -> usize
     }
 }
 
-/// Returns the frame words that an expression needs. For each operand it adds the operand's need to the words that are already in use
-/// when the operand is evaluated. The result is the maximum of these sums and of the words of the complete expression.
+/// Returns the frame words that an expression needs. For each operand, the function adds the operand's need to the words that are
+/// already in use when the operand is evaluated. The result is the maximum of the sums for the operands and of the words of the
+/// complete expression.
 #[cycle(need)]
 fn expression_need(value: &Expr) -> usize
     requires { expression_need (view_expression value.now) ≤ most_frame_count }
@@ -283,7 +285,7 @@ fn operation_need(operation: &Operation, of_type: &Ty, left: usize) -> usize
 }
 
 /// Returns the frame words that the remaining operators of a chain of binary operators need. The chain before an operator is this
-/// operator's left operand. It has the type of the whole chain, unless it consists of the first operand alone.
+/// operator's left operand. The chain before an operator has the type of the whole chain, unless it consists of the first operand alone.
 #[cycle(need)]
 fn operations_need(operations: &[Operation], of_type: &Ty, first: usize) -> usize
     requires { operations_need (operations_of operations.now) (view_ty of_type.now) first ≤ most_frame_count }

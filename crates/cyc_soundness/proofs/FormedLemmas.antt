@@ -1,5 +1,6 @@
 -- This file proves that each program that the typing rules derive from source texts is in the class of programs that the soundness theorem
--- covers. Declarations are in this class if their types mention only regions that are already declared and no struct field is a region key.
+-- covers. Declarations are in the class that the theorem covers if their types contain only regions declared before and no struct field is
+-- a region key.
 use Rattle.std.proofs.Common.{ℕ, suc, ◌+◌, List, [], ◌∷◌, Option, Some, None}
 use Rattle.cyc_syntax.specs.Trees.{Declaration}
 use Rattle.cyc_types.specs.Types.{Ty, ValueType, Void, Null, Value}

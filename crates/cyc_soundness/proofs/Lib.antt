@@ -4,8 +4,8 @@ mod guard
 mod flow
 mod states
 mod steps
--- These modules prove the soundness theorem for the programs of the class, and for programs that the typing
--- rules derive from source texts. Dependent crates cite the theorem.
+-- These modules prove the soundness theorem for the programs in the class that it covers, and for programs
+-- that the typing rules derive from source texts. Dependent crates cite the soundness theorem.
 mod Whole
 pub mod FormedLemmas
 -- examples

@@ -2,7 +2,7 @@
 pub mod Bools
 pub mod States
 -- These modules define the relation of a guard (the sets of locked, relied and peeked locals) to a flow state.
--- They prove that the flow rules preserve the relation.
+-- The modules prove that the flow rules preserve the relation of guards to flow states.
 pub mod Fitting
 pub mod Numbers
 pub mod Followed

@@ -1,4 +1,4 @@
-//! The text that states a program's needs, for every input: calls, pages and steps.
+//! The text that states bounds on the calls, pages and steps that a program needs, for every input.
 use cyc_bound::{CallBound, MOST_CALLS, PageBound, StepBound};
 use cyc_cli::{FileName, Shown};
 use cyc_compiler::{Bounded, Bounds, compile};
@@ -200,7 +200,8 @@ impl Remedies<'_> {
         }
     }
 
-    /// Writes the line about calls: if functions call each other in a cycle, the last call of the cycle.
+    /// Writes the line that suggests a change for a missing bound on calls: if functions call each other
+    /// in a cycle, the line names the last call of the cycle.
     fn write_calls<W: fmt::Write>(&self, f: &mut fmt::Formatter<W>) -> fmt::Result {
         let needs = self.0;
         let CallBound::Cycle { functions } = &needs.bounded.bounds.calls else {
@@ -221,7 +222,8 @@ impl Remedies<'_> {
         )
     }
 
-    /// Writes the line about pages: the loop or the cycle of calls that allocates without a bound.
+    /// Writes the line that suggests a change for a missing bound on pages: the line names the loop or the cycle of calls that allocates
+    /// without a bound.
     fn write_pages<W: fmt::Write>(&self, f: &mut fmt::Formatter<W>) -> fmt::Result {
         let needs = self.0;
         if let PageBound::Pages { .. } = needs.bounded.bounds.pages {

@@ -6,7 +6,7 @@ use cyc_places::Part;
 use std::alloc::{AllocError, Global};
 use std::fmt::Display;
 
-/// Returns the other file that contains a line of the joined text, and the line's number in that file, if the line belongs to another file.
+/// Returns the file that contains a line of the joined text, and the line's number in that file, unless it is the program's own file.
 fn home_of<'a>(parts: &[Part<'a>], line: u32) -> Option<(&'a str, u32)> {
     let after = parts.partition_point(|part| part.first <= line);
     let part = parts.get(after.checked_sub(1)?)?;

@@ -22,8 +22,8 @@ struct Declaration {
     is_reached: bool,
 }
 
-/// The facts known about a name: its declarations in a library and in the program, and a flag. The flag is true once the search for the
-/// needed library declarations has reached the name.
+/// The facts recorded about a name: its declarations in a library and in the program, and a flag. The flag is true once the search for
+/// the needed library declarations has reached the name.
 #[derive(Clone, Copy)]
 struct Known {
     /// The library declaration that declares the name, if any.
@@ -178,7 +178,7 @@ pub struct Shelf<'a> {
     libraries: Vec<Library<'a>>,
     declarations: Vec<Declaration>,
     names: Names,
-    /// The facts known about each name, indexed by the number that identifies the name.
+    /// The facts recorded about each name, indexed by the number that identifies the name.
     known: Vec<Known>,
 }
 
@@ -409,7 +409,7 @@ impl Shelf<'_> {
                 }
             }
         }
-        // Each name is followed to its declaration once, so the number of iterations is at most the number of tokens.
+        // The search looks up the declaration of each name at most once, so the number of iterations is at most the number of tokens.
         for _ in 0..u64::MAX {
             let Some(name) = names.pop() else {
                 return Ok(());

@@ -34,7 +34,7 @@ pub fn check(alloc: Global, text: &[u8]) -> Result<ManuallyDrop<Phases>, Fault>
     Ok(ManuallyDrop::new(run_phases(alloc, text)?))
 }
 
-/// Compiles a source text to an image. If a limit is given, the image contains both limits.
+/// Compiles a source text to an image. If a limit on pages or a limit on calls is given, the image contains limits on both.
 pub fn compile(alloc: Global, text: &[u8], limits: GivenLimits) -> Result<Compilation, Fault>
     ensures answer { AnswersCompile text.now limits result }
     // A text with a fault is never compiled.

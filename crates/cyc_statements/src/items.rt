@@ -1,4 +1,4 @@
-//! This file handles the declarations in blocks.
+//! This file checks the declarations in blocks and creates their typed tree nodes.
 ghost use Rattle.std.specs.Prelude.{◌≡◌, [], ◌∷◌, None, OnOk, IfOk, IfErr, option_map};
 ghost use Rattle.cyc_words.specs.declared.fault.Code.TheVariants as codes;
 ghost use Rattle.cyc_syntax.specs.Trees.{Named};

@@ -30,7 +30,7 @@ pub fn empty(alloc: Global) -> Result<Box<typed::Stmt>, Stop>
     boxed(alloc, typed::Stmt::Empty)
 }
 
-/// Returns the node of an expression as a statement.
+/// Returns the node of the statement that evaluates an expression.
 #[inline(never)]
 pub fn evaluation(
     alloc: Global,

@@ -50,7 +50,7 @@ made-there s h r b sound there placed apart =
     ∙ (ap (λ o. block_in o b.address) (lookup-changed_same handle_of (with_block b) (λ q. refl) (homes s) h r there)
     ∙ lookup-append_new address_of r.blocks b b.address (address-fresh_in s h r b sound there placed apart) refl)
 
--- An allocated block is live. It has the requested number of words or, if it is a unique block, the size of its size class.
+-- An allocated block is live. An allocated block has the requested number of words or, if it is a unique block, the size of its size class.
 pub serves-made : (s t : StoreState) (h n x : ℕ) → IsSound s → Serves s (Allocate h n) (Allocated x) t
     → block_at (homes t) h x ≡ Some (record { address = x; size = room h n })
 serves-made s t h n x sound serves = by (refusal s (Allocate h n)) refl serves

@@ -154,7 +154,7 @@ demand-part (is_kept {x = r} {xs = qs} {ys = rs} part) classes = let rest : dema
     both : (p m n : ℕ) → m ≤ n → p + m ≤ p + n
     both p m n less = omega (arith, less)
 
--- The sizes of the blocks of a region without blocks do not depend on the region's handle.
+-- The list of all regions' block sizes, after a region without blocks is added, does not depend on the handle of the added region.
 pub sizes-opened : (rs : List Home) (g h : ℕ) (sort : Sort) → sizes_in (rs ++ empty_home g sort ∷ []) ≡ sizes_in (rs ++ empty_home h sort ∷ [])
 sizes-opened [] g h sort = refl
 sizes-opened (r ∷ rs) g h sort = ap (λ l. sizes_of r.blocks ∷ l) (sizes-opened rs g h sort)

@@ -213,7 +213,7 @@ module _ (t : PageTable) (lexicals : List ℕ) (classes : List ClassSlots) (b : 
         within : (p : ℕ) → p < 65536 → 2 * p + 1 < 4294967296
         within p less = omega (arith, less)
 
-    -- Writing one more row of the page table does not change the store that the table represents.
+    -- Writing a further row of the page table, after a page was taken, does not change the store that the table represents.
     drawn-also : (v : PageTable) (r : Row) (other : Blocks) → Rewrites u v page r → store_of v.most v.words.items other ≡ store_of t.most t.words.items other
     drawn-also v r other is = held-same t.most t.words.items v.most v.words.items other (is.most ∙ draws.most)
         (λ i. ap (λ ws. slice_index ws i) is.words ∙ draws.words i)

@@ -1,5 +1,6 @@
--- This file is about the answer of a store on a table of pages to a request for a unique block. A slot is filled; if there is no empty
--- slot, a page is cut into slots first. If no page is free, the store is out of pages.
+-- This file is about the answer of a store on a table of pages to a request for a unique block. To answer the request, the store fills
+-- a slot; if there is no empty slot, a page is cut into slots first. If there is neither an empty slot nor a free page, the store is
+-- out of pages.
 use Rattle.std.proofs.Common.{◌≡◌, ℕ, suc, ◌+◌, ◌*◌, ◌^◌, ◌<◌, ◌≤◌, List, length, None, refl, sym, ap, subst, ◌∙◌, inl, inr, arith, get_or-set_same}
 use Rattle.std.specs.Prelude.{◌⊎◌, true, slice_index}
 use Rattle.std.proofs.Math.Nat.{suc-mul}

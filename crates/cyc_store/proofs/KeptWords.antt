@@ -1,4 +1,5 @@
--- This file determines the live words of a store on a table of pages. They depend on the entries that the table has for a word's page.
+-- This file determines the live words of a store on a table of pages. If a word is live depends on the entries that the table has for
+-- the word's page.
 use Rattle.std.proofs.Common.{◌≡◌, ℕ, ◌+◌, ◌*◌, ◌/◌, ◌%◌, ◌<◌, ◌≤◌, Bool, true, false, List, length, sym, ap, subst, ◌∙◌, lit<, arith}
 use Rattle.std.specs.Prelude.{is_some, slice_index_or}
 use Rattle.std.proofs.Math.Nat.{mod-lt}

@@ -235,7 +235,8 @@ mark-pages m (size ∷ sizes) =
     mark-pages (next_mark m size) sizes
     ∙ pages-chosen (record { pages = m.pages; filled = m.filled + size }) (record { pages = suc m.pages; filled = size }) sizes (nat_le (m.filled + size) page_words)
 
--- Adding one more block to a region advances the region's fill mark (the end of its filled words) by one step.
+-- Adding a block to a region advances the region's fill mark (the end of its filled words) as `next_mark`
+-- computes it from the block's size.
 pub mark-append : (m : Mark) (sizes : List ℕ) (size : ℕ) → mark_from m (sizes ++ size ∷ []) ≡ next_mark (mark_from m sizes) size
 mark-append m [] size = refl
 mark-append m (first ∷ sizes) size = mark-append (next_mark m first) sizes size

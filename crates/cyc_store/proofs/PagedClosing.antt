@@ -1,4 +1,4 @@
--- If a region is closed, the store's blocks are still laid out in pages, and all pages of the region's chain become free.
+-- If a region is closed, the store's blocks are still laid out in pages, and all pages of the region's chain (linked list) become free.
 use Rattle.std.proofs.Common.{◌≡◌, ◌≢◌, ℕ, suc, ◌+◌, ◌<◌, List, [], ◌∷◌, ◌++◌, length, Option, None, Some, refl, sym, ap, subst, ◌∙◌, inl, inr, arith, length-append}
 use Rattle.std.specs.List.{AllByRecursion}
 use Rattle.std.proofs.lemmas.Bool.{cases_eq}

@@ -44,7 +44,7 @@ homes-made_in s h b other = when_other UNIQUE h
     (record { handle = UNIQUE; sort = Uniques; blocks = s.unique } ∷ changed handle_of (with_block b) s.regions h)
     (λ e. other (sym e))
 
--- Moving the fill mark of another region's page preserves the page chain of a region.
+-- Moving the fill mark of another region's page preserves the page chain of a region, that is, the list of its pages.
 abbrev pub chain-filled : (pages : Pages) (page words h : ℕ) (q : Home) → pages.owner page ≡ Some h → (q.handle ≡ h → ⊥) → HasChain pages q → HasChain (filled_to pages page words) q
 chain-filled pages page words h q owned other chain = record {
   newest = record {
@@ -61,7 +61,7 @@ chain-filled pages page words h q owned other chain = record {
   many = chain.many;
 }
 
--- The page chains of all regions are preserved when a page's fill mark moves and its region gets one more block.
+-- The page chains (lists of pages) of all regions are preserved when a page's fill mark moves and its region gets one more block.
 chains-made : (pages : Pages) (rs : List Home) (h page words : ℕ) (r : Home) (b : Block) → lookup handle_of rs h ≡ Some r
     → pages.owner page ≡ Some h → HasChain (filled_to pages page words) (with_block b r)
     → ((g : ℕ) (q : Home) → (g ≡ h → ⊥) → lookup handle_of rs g ≡ Some q → HasChain pages q)

@@ -209,7 +209,7 @@ module _ (s : StoreState) (l : Layout) (laid : IsLaidOut s l) (h : ℕ) (r : Hom
 
 -- ---- closing a region
 
--- The list of free pages after the pages of a region's chain are put before it in reverse order.
+-- The list of free pages, after the pages in a region's list of pages are put before it in reverse order.
 abbrev pub moved : (chain free : List ℕ) → List ℕ
 moved [] free = free
 moved (page ∷ chain) free = moved chain (page ∷ free)

@@ -7,7 +7,7 @@ use Rattle.cyc_store.specs.declared.row.Row.{Row}
 use Rattle.cyc_store.specs.declared.row.TheConstants.{NONE}
 use Rattle.cyc_store.specs.Table.{free_row, row_at, given_rows, given_free, AreThere, marked_between}
 
--- The state of the loop that frees the pages of a chain; `left` pages are yet to be freed.
+-- The state of the loop that frees the pages of a region, which are linked one to the next; `left` pages are yet to be freed.
 pub record IsGiving (rows : List Row) (page left free : ℕ) (first : List Row) (newest count none : ℕ) : Type 0 where
   pub there : AreThere rows page left free
   pub rows_are : given_rows rows page left free ≡ given_rows first newest count none

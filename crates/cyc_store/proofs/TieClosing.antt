@@ -1,4 +1,4 @@
--- Freeing the chain of a closed region, page by page, preserves the correspondence between the page table and the layout of blocks.
+-- Freeing the linked pages of a closed region, page by page, preserves the correspondence between the page table and the layout of blocks.
 use Rattle.std.proofs.Common.{◌≡◌, ◌≢◌, ℕ, zero, suc, ◌-◌, ◌<◌, List, [], ◌∷◌, ◌++◌, length, Option, None, Some, refl, sym, ap, subst, ◌∙◌, inl, inr, arith, get_or-set_same, get_or-set_other, length-set}
 use Rattle.std.specs.Prelude.{◌⊎◌, set}
 use Rattle.std.specs.List.{AllByRecursion}
@@ -150,7 +150,7 @@ module _ (t : Table) (lexicals : List ℕ) (classes : ℕ → ClassSlots) (b : B
   halves : (m n : ℕ) → handle_of_page m ≡ handle_of_page n → m ≡ n
   halves m n e = omega (arith, e)
 
-  -- No other region has a page of the closed region as its first page.
+  -- No region other than the closed one has a page of the closed region as its first page.
   rootless : (p : ℕ) → l.pages.owner p ≡ Some h → lookup handle_of (without handle_of b.regions h) (handle_of_page p) ≡ None
   rootless p owned = elim (cases_eq (handle_of_page p) h) [
     | inl same ↦ ap (lookup handle_of (without handle_of b.regions h)) same ∙ lookup-without handle_of b.regions h

@@ -1,4 +1,4 @@
--- This file is about chains in a table of pages, and about taking a free page.
+-- This file is about chains (linked lists of pages or slots) in a page table, and about taking a free page.
 use Rattle.std.proofs.Common.{◌≡◌, ◌≢◌, ℕ, suc, ◌-◌, ◌<◌, ◌≤◌, List, [], ◌∷◌, ◌++◌, length, refl, sym, ap, subst, ◌∙◌, inl, inr, arith}
 use Rattle.std.specs.Prelude.{◌⊎◌, ◌==◌, if◌then◌else◌}
 use Rattle.std.specs.List.{AllByRecursion}
@@ -16,7 +16,7 @@ use Rattle.cyc_store.proofs.LookupLemmas.{when_other}
 
 -- ---- chains of pages
 
--- If the links of the elements of a chain are unchanged, then the chain is unchanged.
+-- If the links of all elements of a linked list (chain) are unchanged, then the linked list is unchanged.
 pub chain-also : (next also : ℕ → ℕ) (first : ℕ) (xs : List ℕ) → AllByRecursion (λ x. also x ≡ next x) xs → IsChain next first xs → IsChain also first xs
 chain-also next also first [] all linked = linked
 chain-also next also first (x ∷ xs) all linked = (linked.0, chain-also next also (also x) xs all.1 (subst (λ n. IsChain next n xs) (sym all.0) linked.1))

@@ -218,8 +218,8 @@ module _ (t : Table) (lexicals : List ℕ) (classes : ℕ → ClassSlots) (b : B
   half-old : (p : ℕ) → (p ≡ page → ⊥) → half.row p ≡ t.row p
   half-old p other = when_other p page (next_row size rooted.chain.newest.page) (t.row p) other
 
-  -- An allocation in a new page writes two rows of the page table. The second write changes only the entries
-  -- about the region in the row of the region's first page.
+  -- An allocation in a new page writes two rows of the page table. The second write of an allocation in a
+  -- new page changes only the entries about the region in the row of the region's first page.
   whole-next : (p : ℕ) → (whole.row p).next ≡ (half.row p).next
   whole-next p = elim (cases_eq p rooted.root) [
     | inl here ↦ ap (λ (x : Row). x.next) (when_equal p rooted.root (longer_row (half.row rooted.root) page) (half.row p) here) ∙ ap (λ n. (half.row n).next) (sym here)

@@ -52,7 +52,7 @@ lexical-append (r ∷ rs) qs = either (is_lexical r.sort) r.handle (lexical_hand
 handle_of_one_page : (m n : ℕ) → handle_of_page m ≡ handle_of_page n → m ≡ n
 handle_of_one_page m n e = omega (arith, e)
 
--- A page that has an owner differs from the free page.
+-- A page that has an owner differs from every free page, since a free page has no owner.
 pub owner-away : (pages : Pages) (page p h : ℕ) → pages.owner page ≡ None → pages.owner p ≡ Some h → p ≡ page → ⊥
 owner-away pages page p h none owned e = never_none_and_some none (ap pages.owner (sym e) ∙ owned)
 
@@ -60,7 +60,7 @@ pub owned-away : (pages : Pages) (page h : ℕ) → pages.owner page ≡ None �
 owned-away pages page h none [] all = tt
 owned-away pages page h none (x ∷ xs) all = (λ e. never_none_and_some none (ap pages.owner e ∙ all.0), owned-away pages page h none xs all.1)
 
--- Taking a free page does not affect how the page table represents every other region.
+-- Taking a free page for one region does not affect how the page table represents any other region.
 pub rooted-drawn : (row : ℕ → Row) (pages : Pages) (page h : ℕ) (new : Row) (r : Home) → pages.owner page ≡ None → (r.handle ≡ h → ⊥) → IsRooted row pages r
     → IsRooted (λ (other : ℕ). if other == page then new else row other) (drawn pages page h) r
 rooted-drawn row pages page h new r none other rooted = record {

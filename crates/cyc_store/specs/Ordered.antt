@@ -1,6 +1,6 @@
--- This file defines stores whose blocks are laid out in pages. If such a store has enough pages for a call, then there is space for
--- the call's result. In this case the store can choose a handle, an address and words that preserve the layout. The layout of blocks
--- in pages is this project's own choice.
+-- This file defines stores whose blocks are laid out in pages. If a store whose blocks are laid out in pages has enough pages for a
+-- call, then there is space for the call's result. A store with enough pages for a call can choose a handle, an address and words
+-- that preserve the layout. The layout of blocks in pages is this project's own choice.
 use Rattle.std.specs.Prelude.{◌≡◌, ◌≤◌, List, [], ◌∷◌}
 use Rattle.cyc_store.specs.State.{StoreState}
 use Rattle.cyc_store.specs.Services.{Call, Choice, served, IsAllowed}

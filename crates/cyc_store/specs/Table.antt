@@ -19,7 +19,7 @@ pub record IsWhole (t : PageTable) : Type 0 where
   pub words : length t.words.items ≡ PAGE_WORDS * length t.rows.items
   pub live : length t.live.items ≡ PAGE_WORDS * length t.rows.items
 
--- Says that two tables have equal contents.
+-- Says that two page tables have equal contents, such as their rows, words and flags of live words.
 pub record IsSame (old new : PageTable) : Type 0 where
   pub most : new.most ≡ old.most
   pub words : new.words.items ≡ old.words.items
@@ -53,7 +53,7 @@ abbrev pub given_free : List Row → (page count free : ℕ) → ℕ
 given_free rows page zero free = free
 given_free rows page (suc count) free = given_free (set rows page (free_row free)) (row_at rows page).next count page
 
--- Says that all pages of a chain exist.
+-- Says that all pages of a chain (pages that are linked one to the next) exist in the page table.
 abbrev pub AreThere : List Row → (page count free : ℕ) → Type 0
 AreThere rows page zero free = Unit {0}
 AreThere rows page (suc count) free = (page < length rows) × AreThere (set rows page (free_row free)) (row_at rows page).next count page

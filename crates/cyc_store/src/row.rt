@@ -37,8 +37,8 @@ pub struct Row {
 /// The empty slots of one size class.
 #[derive(Clone, Copy)]
 pub struct ClassSlots {
-    /// The first of the empty slots that contained a block before. The first word of each of these slots is the index of the next
-    /// slot's first word.
+    /// The first of the empty slots that contained a block before. The first word of each empty slot that contained a block
+    /// before is the index of the first word of the next one.
     pub dead: u32,
     /// The first of the empty slots that never contained a block; these slots are consecutive in one page. The
     /// field `left` is their number.
@@ -67,7 +67,7 @@ pub struct PageTable {
     /// For each word of all pages, a flag that is true if the word is in a live unique block.
     pub live: Vec<bool>,
     pub rows: Vec<Row>,
-    /// The first page of the chain of free pages.
+    /// The first page of the linked list of free pages.
     pub free: u32,
 }
 

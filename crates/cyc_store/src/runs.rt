@@ -65,8 +65,8 @@ fn make<S: Store>(store: &mut S, asked: Asked)
 /// Calls a store several times in order, and ignores the results.
 ///
 /// The content of the store afterwards is the end of a run of the store relation over these calls that begins with the content before.
-/// A call that fails for lack of memory is not part of that run, and changes nothing. In a store that does not grow, no call fails for
-/// lack of memory.
+/// A call that fails for lack of memory is not part of the run of the store relation, and changes nothing. In a store that does not
+/// grow, no call fails for lack of memory.
 pub fn make_all<S: Store>(store: &mut S, calls: &[Asked])
     ensures { MakesAll S.GROWS calls.now (S.held store.old) (S.held store.new) }
 {
@@ -76,9 +76,9 @@ pub fn make_all<S: Store>(store: &mut S, calls: &[Asked])
 }
 
 /// The blocks of a store may have a layout in pages. If the blocks have a layout, the store relation allows a choice of a handle, an
-/// address and words for each call that is not refused. A layout exists after the call as well. If the store has enough pages for a
-/// call, then there is space for the call's result. Every list of calls has a run with a result for each call. A new store has a
-/// layout, and writing a word preserves the layout.
+/// address and words for each call that is not refused. After a call that is not refused, the blocks have a layout as well. If the
+/// store has enough pages for a call, then there is space for the call's result. Every list of calls has a run with a result for
+/// each call. A new store has a layout, and writing a word preserves the layout.
 pub fn choices_exist()
     ensures begins { (pages : ℕ) (s : StoreState) → IsNew pages s → 1 ≤ pages → pages ≤ MOST_PAGES → IsOrdered s }
     ensures chooses { (s : StoreState) (call : Call) → IsOrdered s → refusal s call ≡ None → HasChoice s call }

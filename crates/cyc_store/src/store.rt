@@ -17,7 +17,8 @@ use super::answer::{BadHandle, BadMark, No, NotABlock};
 pub trait Store {
     ghost held: { Self → StoreState };
 
-    /// True if the store may run out of memory after its creation. If false, no call returns [`No::Memory`].
+    /// True if the store may run out of memory after its creation. If a store cannot run out of memory after
+    /// its creation, no call returns [`No::Memory`].
     const GROWS: bool;
 
     ghost GROWS: { Bool };

@@ -1,4 +1,5 @@
--- A cut divides a text into its longest pieces (tokens, spaces and comments): at most one exists, and a cut can be extended at its end.
+-- A cut divides a text into its longest pieces (tokens, spaces and comments) and a rest. A text has at most one cut without a rest, and
+-- a cut can be extended by the next piece of the rest.
 use Rattle.std.proofs.Common.{◌≡◌, ◌≢◌, ℕ, ◌⊎◌, inl, inr, ⊎_elim, List, [], ◌∷◌, ◌++◌, refl, sym, ap, subst, ◌∙◌, append_assoc, append-nil, arith}
 use Rattle.cyc_words.proofs.Lists.{same_fronts}
 use Rattle.cyc_syntax.specs.Tokens.{Token}

@@ -90,7 +90,7 @@ module _ (texts : List (List ℕ)) (text : List ℕ) (first : ℕ → Option ℕ
           (λ differs. index.apart t (sym (off (key_of t) differs) ∙ missing))
           (cases_Bool (is_eq (nat_cmp (key_of text) (key_of t))))
 
-      -- If the key of the new text was not stored, no lookup with this key found a number before.
+      -- If the key of a new text is not stored yet, no lookup with this key finds a number before the new text is added.
       unknown : (t : List ℕ) → is_eq (nat_cmp (key_of text) (key_of t)) ≡ true → first (key_of t) ≡ None
       unknown t same = ap first (sym (same_from_nat_cmp _ _ same)) ∙ none
 
@@ -182,8 +182,8 @@ others_kept : {X : Type 0} (eq : X → X → Bool) (test : X → Bool) (old new 
 unfolding KeepsOthers
 others_kept eq test old new keeps = keeps
 
--- The map of other texts holds texts whose key an earlier text has. After an insertion, a lookup finds the inserted number for the inserted
--- text and the old result for every other text.
+-- The map of other texts holds texts whose key an earlier text has. After an insertion into the map of other texts, a lookup finds the
+-- inserted number for the inserted text and the old result for every other text.
 pub others_after : (m n : BTreeMap (Vec ℕ Global) ℕ) (v : Vec ℕ Global) (number : ℕ) → tree.Updates (λ x y. slice_cmp nat_cmp x.items y.items) m n v (Some number)
     → (t : List ℕ) → other_in n t ≡ cond (bytes_eq v.items t) (Some number) (other_in m t)
 others_after m n v number updates t =
@@ -198,7 +198,7 @@ others_after m n v number updates t =
         ∙ ap (bytes_eq t) (sym ((bytes_eq-Decides v.items k.items).0 (sym (is_eq-slice_cmp v.items k.items) ∙ here)))
         ∙ bytes_eq-apart_turned v.items t is_not
 
--- The index of names stays correct when a text is added, if its key is new and if it is not.
+-- The index of names stays correct when a text is added, whether this text's key is new or an earlier text has the same key.
 module _ (texts : List (List ℕ)) (text : List ℕ) (firsts : BTreeMap ℕ ℕ) (others : BTreeMap (Vec ℕ Global) ℕ)
     (index : IsIndexOf texts (first_in firsts) (other_in others)) (new : is_among text texts ≡ false)
     (key number : ℕ) (is_key : key ≡ key_of text) (is_number : number ≡ length texts) where

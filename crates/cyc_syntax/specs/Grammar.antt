@@ -126,8 +126,8 @@ abbrev mutual
 abbrev pub IsExpressionOrNone : Option Expression → Type 0
 IsExpressionOrNone v = IfSome v (λ e. IsExpression assignment_level e)
 
--- Returns true if a statement ends in an `if` without an `else`. An `else` after such a statement would be read as the `else` of
--- this inner `if`.
+-- Returns true if a statement ends in an `if` without an `else`. An `else` after a statement that ends in an `if` without an
+-- `else` would be read as the `else` of this inner `if`.
 abbrev pub wants_else : Statement → Bool
 wants_else (Block b) = false
 wants_else (Labelled l b) = false

@@ -134,7 +134,7 @@ is_hexadecimal (b ∷ c ∷ d ∷ ds) = b == 48 && (c == 120 || c == 88) && list
 abbrev pub digit_value : ℕ → ℕ
 digit_value b = if is_digit b then b - 48 else (if is_between 97 102 b then b - 87 else b - 55)
 
--- Returns the value of digits in a number base; the first digit is the highest.
+-- Returns the value of digits in a number base; the first digit is the most significant.
 abbrev pub number_in : ℕ → List ℕ → ℕ
 number_in base digits = fold (λ n d. n * base + digit_value d) 0 digits
 

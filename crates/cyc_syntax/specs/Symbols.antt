@@ -1,6 +1,6 @@
 -- The symbols that the grammar reads: tokens in which each name is replaced by its index. The distinct identifiers and region names of a
--- program are listed in the order of their first occurrence. The number of a name is its index in this list. The numbering of names is this
--- project's own choice.
+-- program are listed in the order of their first occurrence. The number of a name is its index in the list of distinct names. The numbering
+-- of names is this project's own choice.
 use Rattle.std.specs.Prelude.{ℕ, List, [], ◌∷◌, map}
 use Rattle.cyc_words.specs.declared.span.Span.{Span}
 use Rattle.cyc_syntax.specs.declared.tokens.Keyword.{Keyword}

@@ -158,7 +158,7 @@ pub enum Expr {
         region: Box<Expr>,
         value: Box<Initial>,
     },
-    /// Operands joined by operators of one precedence level, which associate to the left. There is at least one operator.
+    /// Operands joined by operators of one precedence level, which associate to the left. At least one operator joins the operands.
     Binary {
         first: Box<Expr>,
         rest: Vec<Operation>,
@@ -194,7 +194,8 @@ pub enum Initial {
     Plain {
         value: Expr,
     },
-    /// A struct initializer: the struct's name, its region arguments, and the values of its fields. There is at least one field value.
+    /// A struct initializer: the struct's name, its region arguments, and the values of its fields. A struct initializer has at least
+    /// one field value.
     Fields {
         name: Ident,
         regions: Vec<Ident>,

@@ -45,11 +45,13 @@ stopped_at : (stop : Stop) (budget count : ℕ) (w : World) (end : End) → Stop
 stopped_at (stops.End e) budget count w end ended over = let same : Some e ≡ Some end = sym ended ∙ over in cc
 stopped_at stops.Spent budget count w end (none, all) over = absurd (let same : None ≡ Some end = sym none ∙ over in cc)
 
--- If the input bytes of a reader are known, they are the bytes that the reader supplied.
+-- If it is stated which input bytes a reader contains, then any bytes that the reader may supply according to `Tells` are exactly these
+-- bytes.
 input_reported : (reported : Option (List ℕ)) (input bytes : List ℕ) → reported ≡ Some input → Tells reported bytes → bytes ≡ input
 input_reported reported input bytes is tells = sym (let same : input ≡ bytes = subst (λ (o : Option (List ℕ)). Tells o bytes) is tells in same)
 
--- If the input bytes of a reader were known, the bytes that it still has are known and are exactly the remaining ones.
+-- If it is stated which input bytes a reader contains before a run, then the bytes that it contains after the run are
+-- known: exactly those not read.
 reported_rest : (reported new : Option (List ℕ)) (input rest : List ℕ) → reported ≡ Some input → Leaves reported new rest → new ≡ Some rest
 reported_rest None new input rest is leaves = absurd (let e : None ≡ Some input = is in cc)
 reported_rest (Some reported) None input rest is leaves = absurd leaves
@@ -61,7 +63,7 @@ module _ (p : Program) (image : ImageContents) (limits : Bounds) (store : StoreS
   started : World
   started = start_world image limits store input
 
-  -- If memory runs out, the run fails before any byte is read or written.
+  -- If a run of the machine fails for lack of memory and has read and written no byte, its result satisfies `RunsAs`.
   kept : old.remaining ≡ Some input → (result : Result Report RunFault) → result ≡ Err Memory → Rests old new → RunsAs p limits input (text_words image) budget old new result
   kept tells result is (unread, silent) =
       let (steps, (seen, ends)) = alike.following 0 (start_world image limits store input) refl in
@@ -80,7 +82,7 @@ module _ (p : Program) (image : ImageContents) (limits : Bounds) (store : StoreS
     unfolding started
     run = subst (λ (bytes : List ℕ). Run count (start_world image limits store bytes) w) (input_reported old.remaining input x.input tells x.reported) (counted_run count (start_world image limits store x.input) w x.counted)
 
-    -- The output of the run so far is output of the program, whatever the result of the run.
+    -- The bytes that the machine's run has written so far are output of the source program, whatever the result of the run.
     so_far : (result : Result Report RunFault) → AnswersAs p limits input (text_words image) budget (seen_in w) result → RunsAs p limits input (text_words image) budget old new result
     unfolding started
     so_far result answers =

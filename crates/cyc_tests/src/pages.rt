@@ -1,5 +1,5 @@
 //! This file tests the store on a pool of pages when the serial numbers of regions reach their last value. In no run of
-//! a program do the serial numbers reach this value.
+//! a program do the serial numbers of regions reach their last value.
 
 use crate::expect::expect;
 use cyc_pagestore::PageStore;
@@ -86,7 +86,7 @@ fn stale_words_stay_dead(rt: HostRuntime) {
     expect(&rt, right == Some(true), "past the last serial");
 }
 
-/// Returns true if one bit of a page of a pool can be set and cleared; stores set many bits at a time.
+/// Returns true if one of the 1,024 bits that a pool has for each page can be set and cleared by itself; stores set many bits at a time.
 fn bit_is_set(alloc: Global, pages: u32) -> Option<bool> {
     if pages > 65_536 {
         return None;

@@ -51,7 +51,7 @@ fn expect_scopes<R: Abort>(rt: &R, alloc: Global) -> Option<()> {
     )
 }
 
-/// Tests written constraints: A outlives B, and B outlives C.
+/// Tests the outlives relation for two written constraints: A outlives B, and B outlives C.
 fn expect_written<R: Abort>(rt: &R, alloc: Global) -> Option<()> {
     let written = Outlives::new(alloc, &[(A, B), (B, C)], &[]).ok()?;
     expect_table(

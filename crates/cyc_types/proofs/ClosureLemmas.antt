@@ -107,8 +107,8 @@ module _ (w : List (Region × Region)) (live : List Region) where
   leads-above [] a b h = h
   leads-above (s ∷ e) a b h = or_left (leads w live e a b) _ (leads-above e a b h)
 
-  -- A path from region a to region b over the newest scope leads from a to a live region, and from the scope's region to b. On such a
-  -- path, the live regions outlive the scope's region.
+  -- If a path of the outlives relation from region a to region b uses the newest scope, it leads from a to a live region, and from
+  -- the scope's region to b. The newest scope can be part of a path only if the live regions outlive the scope's region.
   pub newest-parts : (s : Scope) (e : List Scope) (a b : Region) →
       (is_outlived_by_live s.kind && above_one_of w (live_regions live e) a && leads w live e s.region b) ≡ true →
       (is_outlived_by_live s.kind ≡ true) × (above_one_of w (live_regions live e) a ≡ true) × (leads w live e s.region b ≡ true)

@@ -120,7 +120,8 @@ module _ (w : List (Region × Region)) (live : List Region) (openings : List ℕ
             ]
       ])
 
-  -- a region that is not live at the function's start is live exactly if the scope stored as its oldest scope has this region
+  -- a region not live at the function's start is live while `count` scopes are open exactly if the scope that the table
+  -- stores as its oldest scope has this region
   pub live-tested : (count : ℕ) (r : Region) → count ≤ n → is_region_among r live ≡ false → opening_of openings r < count →
       region_eq (scope_at scopes (opening_of openings r)).region r ≡ is_region_among r (live_before live scopes count)
   live-tested count r le never_live lt = same_tests (region_eq (scope_at scopes (opening_of openings r)).region r) (is_region_among r (live_before live scopes count))
@@ -128,7 +129,8 @@ module _ (w : List (Region × Region)) (live : List Region) (openings : List ℕ
       (λ h. true_from_ne_false (region_eq (scope_at scopes (opening_of openings r)).region r)
       (λ f. never_true_and_false h (live-missed count r le never_live (λ l. f))))
 
-  -- a path between two regions either uses only the function's constraints, or crosses exactly one scope
+  -- a path of the outlives relation from a to b either uses only the function's constraints, or goes by
+  -- constraints to a region live before a scope with region b
   by-one-scope : (k : ℕ) (a b : Region) → k ≤ n → leads w live (reverse (take k scopes)) a b ≡ true →
       (above w a b ≡ true) ⊎ ((i : ℕ) × (i < n) × (is_outlived_by_live (scope_at scopes i).kind ≡ true)
       × ((scope_at scopes i).region ≡ b) × (above_one_of w (live_before live scopes i) a ≡ true))

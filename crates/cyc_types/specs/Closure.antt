@@ -47,7 +47,7 @@ is_outliving c a b =
 abbrev pub entry_leads : Constraint → Region → Bool
 entry_leads c b = region_eq c.longer b || is_region_among b c.outlived
 
--- returns true if the table records that region a outlives region b; the first entry for region a decides
+-- returns true if the constraint table records that region a outlives region b; the first entry for region a decides
 abbrev pub table_leads : List Constraint → Region → Region → Bool
 table_leads [] a b = region_eq a b
 table_leads (c ∷ cs) a b = (if region_eq c.longer a then entry_leads c b else table_leads cs a b)
@@ -59,7 +59,7 @@ has_entry constraints a = list_any (λ c. region_eq c.longer a) constraints
 abbrev pub written_in : List Constraint → List (Region × Region)
 written_in constraints = map (λ c. (c.longer, c.shorter)) constraints
 
--- says that the table records that a outlives b exactly if a path of its pairs leads from a to b
+-- says that the constraint table records that a outlives b exactly if a path of its pairs leads from a to b
 abbrev pub IsClosed : List Constraint → Type 0
 IsClosed constraints = (a b : Region) → table_leads constraints a b ≡ above (written_in constraints) a b
 

@@ -1,11 +1,11 @@
--- The locals and the regions that a typed statement declares, in the order of the indices that identify them. The order of declarations by
--- numbers is this project's own choice.
+-- The locals and the regions that a typed statement declares, in the order of the indices that identify them. The order in which the
+-- locals and the regions get these indices is this project's own choice.
 use Rattle.std.specs.Prelude.{ℕ, suc, ◌+◌, List, [], ◌∷◌, ◌++◌, Option, None, Some}
 use Rattle.cyc_types.specs.declared.region.Region.TheVariants as regions
 use Rattle.cyc_types.specs.Types.{Ty, Int, Handle, Key}
 use Rattle.cyc_types.specs.TypedTrees.{Statement, Block, If, While, Try, Items, NoItems, MoreItems, Execute, Declare, DeclareRegion, OpenRegion, DeclareAlias, DeclareKey, Clauses, NoClauses, Default, Case}
 
--- the type of the local that receives a caught exception's int; the list is empty if the clause receives no int
+-- a list with the type of the local that receives a caught exception's int; the list is empty if the catch clause receives no int
 abbrev pub caught_types : Option ℕ → List Ty
 caught_types None = []
 caught_types (Some n) = Int ∷ []

@@ -1,6 +1,7 @@
 -- A record of requirements (`Demands`) has one condition for each kind of typed tree node that at least one record of requirements
--- restricts. A node of any other kind satisfies a record of requirements if all its subtrees satisfy the record. Each form of the
--- language has one line in this file, which all records of requirements share. Demands as records are this project's own choice.
+-- restricts. A node of any other kind satisfies a record of requirements if all its subtrees satisfy the record. Each construct of
+-- the language has one line in this file, which all records of requirements share. The definition of requirements (demands) on
+-- typed trees as records is this project's own choice.
 use Rattle.std.specs.Prelude.{ℕ, List, [], ◌∷◌, Option, Some, None}
 use Rattle.cyc_types.specs.declared.typed.PointerOperator.{PointerOperator}
 use Rattle.cyc_types.specs.TypedTrees.{Expression, Number, Load, AddressOfCell, NumberOfElements, FreeUnique, FreeKey, Call, Unary, Binary, Assign, Store, New, Dereference, Target, Member, Element, Placement, OnHeap, AsUnique}
@@ -14,7 +15,7 @@ pub record Demands : Type 1 where
   pub fields : Arguments → Type 0
   -- the condition on a pointer operator and on the operations that follow it
   pub pointer : PointerOperator → Operations → Type 0
-  -- the condition on the number of an exception that is thrown or caught
+  -- the condition on the number that identifies a thrown or caught exception
   pub exception : ℕ → Type 0
 
 module _ (d : Demands) where

@@ -1,7 +1,7 @@
 -- Properties of typed programs that come from source texts, beyond the requirements of the typing rules. A struct has few fields,
--- because the lists of a source text are short. The number of an exception fits a 32-bit word, because a source text has few tokens. An
--- operator chain with pointer arithmetic contains no comparison, because `+` and `-` bind more tightly than comparisons. These
--- properties are this project's own choice.
+-- because the lists of a source text are short. The number that identifies an exception fits a 32-bit word, because a source text has
+-- few tokens. An operator chain with pointer arithmetic contains no comparison, because `+` and `-` bind more tightly than comparisons.
+-- These properties are this project's own choice.
 use Rattle.std.specs.Prelude.{◌≡◌, ◌≤◌, Bool, true, false, not, ◌&&◌}
 use Rattle.cyc_words.specs.Word.{IsWord}
 use Rattle.cyc_syntax.specs.Grammar.{max_items}

@@ -250,7 +250,7 @@ pub record Function : Type 0 where
   pub constraints : List (Region × Region)
   -- the types of the locals that the function's body declares
   pub locals : List Ty
-  -- the number of the function's own region
+  -- the number that identifies the function's own region
   pub region : ℕ
   -- the total number of regions of the function
   pub regions : ℕ
@@ -258,16 +258,16 @@ pub record Function : Type 0 where
   -- the source position of the function's closing brace
   pub end : Place
 
--- the number of the first exception that a program declares; lower numbers denote built-in exceptions
+-- the number that identifies the first exception that a program declares; lower numbers denote built-in exceptions
 abbrev pub first_exception : ℕ
 first_exception = 5
 
--- a typed program; structs, globals and functions are numbered by their positions in these lists
+-- a typed program; a struct, global or function is identified by its index in the program's list of structs, globals or functions
 pub record Program : Type 0 where
   pub structs : List StructType
   -- for each exception that the program declares, true if it carries an int; the first has the number `first_exception`
   pub exceptions : List Bool
   pub globals : List GlobalVariable
   pub functions : List Function
-  -- the number of the function named `main`
+  -- the number that identifies the function named `main`
   pub main : ℕ

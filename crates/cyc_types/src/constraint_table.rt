@@ -77,7 +77,7 @@ impl Places {
     }
 }
 
-/// Grows the table until it has an entry for the region variable with this number.
+/// Grows the table of first constraints until it has an entry for the region variable with this number.
 fn grow(variables: &mut Vec<Option<usize>>, number: usize) -> Result<(), AllocError>
     ensures same { (x : ℕ) → get_or variables.new.items x None ≡ get_or variables.old.items x None }
     ensures long { OnOk result (number < length variables.new.items) }

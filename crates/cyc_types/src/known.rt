@@ -1,4 +1,4 @@
-//! The names that are known in the whole text of a program.
+//! The names that are visible in the whole text of a program.
 ghost use Rattle.std.specs.Prelude.{◌≡◌, map, IfOk};
 ghost use Rattle.cyc_syntax.specs.inside.TreeView.{view_declaration};
 ghost use Rattle.cyc_types.specs.typing.DeclarationRules.{structs_of};
@@ -8,7 +8,7 @@ use cyc_syntax::Declaration;
 use std::alloc::{AllocError, Global};
 use std::marker::Model;
 
-/// The names that are known in the whole text of a program: the built-in regions, its structs, and `main`.
+/// The names that are visible in the whole text of a program: the built-in regions, its structs, and `main`.
 #[derive(Drop)]
 pub struct Known {
     structs: StructNames,
@@ -50,7 +50,8 @@ impl Known {
     ghost use Rattle.cyc_types.specs.typing.DeclarationRules.{structs_of, is_among, region_numbers};
     ghost use Rattle.cyc_types.specs.inside.Namings.{first_regions};
 
-    /// Returns the names known in a program with these declarations, from the names of the heap, the unique region and `main`.
+    /// Returns the names that are visible in a whole program with these declarations, from the names of the heap, the unique
+    /// region and `main`.
     pub fn new(
         alloc: Global,
         heap: usize,

@@ -69,7 +69,7 @@ impl NameSet {
 ghost use Rattle.std.specs.Prelude.{◌≡◌, ℕ, ◌<◌, length, nat_eq, not, ◌||◌, ◌&&◌, false, get_or, OnOk};
 ghost use Rattle.std.specs.List.{list_any};
 
-/// Grows the table until it has an entry for `name`.
+/// Grows the table of flags, indexed by name, until it has an entry for `name`.
 pub(crate) fn grow(table: &mut Vec<bool>, name: usize) -> Result<(), AllocError>
     ensures same { (x : ℕ) → get_or table.new.items x false ≡ get_or table.old.items x false }
     ensures long { OnOk result (name < length table.new.items) }

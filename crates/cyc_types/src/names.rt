@@ -122,7 +122,7 @@ fn add_all(bindings: &[Binding], set: &mut NameSet) -> Result<(), AllocError>
     Ok(())
 }
 
-/// Grows the table until it has an entry for `name`.
+/// Grows the table of regions, indexed by name, until it has an entry for `name`.
 fn grow(table: &mut Vec<Option<Region>>, name: usize) -> Result<(), AllocError>
     ensures same { (x : ℕ) → get_or table.new.items x None ≡ get_or table.old.items x None }
     ensures long { OnOk result (name < length table.new.items) }

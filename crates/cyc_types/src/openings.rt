@@ -122,7 +122,7 @@ pub(crate) fn leads_in_order(
     false
 }
 
-/// Grows the table until it has an entry for the region variable with this number.
+/// Grows the table of opening indexes until it has an entry for the region variable with this number.
 fn grow(openings: &mut Vec<usize>, number: usize) -> Result<(), AllocError>
     ensures same { (x : ℕ) → get_or openings.new.items x 0 ≡ get_or openings.old.items x 0 }
     ensures long { OnOk result (number < length openings.new.items) }
@@ -137,7 +137,7 @@ fn grow(openings: &mut Vec<usize>, number: usize) -> Result<(), AllocError>
     Ok(())
 }
 
-/// Stores `place` as the index of a region's oldest scope, if the region is a variable.
+/// Stores `place` in the table as the index of the oldest open scope of `region`, if `region` is a region variable.
 fn note(openings: &mut Vec<usize>, region: Region, place: usize) -> Result<bool, AllocError>
     ensures noted { IfOk result (λ noted. noted ≡ true → opening_of openings.new.items region ≡ place) }
     ensures others { (r : Region) → region_eq region r ≡ false → opening_of openings.new.items r ≡ opening_of openings.old.items r }
@@ -161,7 +161,7 @@ fn is_alone(constraints: &ConstraintTable, region: Region) -> bool
 }
 
 /// Returns true if the table of opening indexes will be correct for the next scope, provided that it is correct for the oldest
-/// `in_order` scopes. Stores in this table the index of the oldest scope of the next scope's region.
+/// `in_order` scopes. Stores in the table of opening indexes the index of the oldest scope of the next scope's region.
 pub(crate) fn opens_in_order(
     constraints: &ConstraintTable,
     live: &RegionList,

@@ -18,7 +18,7 @@ use smallvec::SmallVec;
 use std::alloc::{AllocError, Global};
 use std::rc::Rc;
 
-/// Returns the next region variable, which is new, and increments the number of the next region.
+/// Returns the next region variable, which is new, and increments the number that the next region will get.
 fn next_region(next: &mut usize) -> Result<Region, AllocError>
     ensures region { IfOk result (λ r. r ≡ Variable next.old) }
     ensures next { OnOk result (next.new ≡ suc next.old) }
@@ -147,7 +147,8 @@ fn pointers_for(
     Ok(of_type)
 }
 
-/// Returns the type of a parameter, from the known structs and region names. Region names that the type declares are added.
+/// Returns the type of a parameter, from the known structs and region names. Region names that the parameter's type
+/// declares are added to the known region names.
 fn type_for(
     alloc: Global,
     structs: &StructNames,
@@ -162,8 +163,8 @@ fn type_for(
     pointers_for(alloc, names, next, base, &written.marks)
 }
 
-/// Returns the types of parameters, from the known structs, the region names and the number of the next region. After the call, the region
-/// names that the parameters declare are known.
+/// Returns the types of parameters, from the known structs, the region names and the number that the next region will get. After the call,
+/// the region names that the parameters declare are known.
 pub fn types_for(
     alloc: Global,
     structs: &StructNames,

@@ -17,7 +17,7 @@ struct Entry {
     parameters: usize,
 }
 
-/// The declared structs in order, numbered by their positions. If a name is declared twice, the first declaration counts.
+/// The declared structs in order; a struct's number is its index in this list. If a name is declared twice, the first declaration counts.
 #[derive(Drop)]
 pub struct StructNames {
     entries: Vec<Entry>,
@@ -68,7 +68,7 @@ impl StructNames {
         }
     }
 
-    /// Returns the number of the first struct with the given name, or the number of all structs if no struct has the name.
+    /// Returns the index of the first struct with the given name, or the count of all structs if no struct has the name.
     #[tactic(auto, using(crate::proofs::StructLemmas::number_found, crate::proofs::StructLemmas::number_lost))]
     pub fn number(&self, name: usize) -> usize
         ensures { result ≡ struct_number self.now name }
@@ -108,7 +108,7 @@ impl StructNames {
 
 ghost use Rattle.std.specs.Prelude.{◌≡◌, ℕ, ◌<◌, length, get_or, None, OnOk};
 
-/// Grows the table until it has an entry for `name`.
+/// Grows the table of structs, indexed by name, until it has an entry for `name`.
 fn grow(table: &mut Vec<Option<Known>>, name: usize) -> Result<(), AllocError>
     ensures same { (x : ℕ) → get_or table.new.items x None ≡ get_or table.old.items x None }
     ensures long { OnOk result (name < length table.new.items) }

@@ -80,8 +80,8 @@ pub enum LogicalOperator {
     OrElse,
 }
 
-/// The operators whose left operand is a pointer or `NULL`. The name of each such operator states its operation and the kinds of its
-/// operands.
+/// The operators whose left operand is a pointer or `NULL`. The name of each operator on pointers states its operation and the kinds
+/// of its operands.
 #[derive(Clone, Copy)]
 pub enum PointerOperator {
     /// Operators on a fat pointer and an int.
@@ -489,7 +489,7 @@ pub struct Function {
     pub constraints: SmallVec<(Region, Region), 4>,
     /// The types of the locals that the function's body declares.
     pub locals: Vec<Ty>,
-    /// The number of the function's own region, which contains its parameters and the outermost variables of its body.
+    /// The number that identifies the function's own region, which contains its parameters and the outermost variables of its body.
     pub region: usize,
     /// The total number of regions of the function.
     pub regions: usize,
@@ -498,7 +498,8 @@ pub struct Function {
     pub end: Span,
 }
 
-/// A typed program, in which all names are resolved and all types agree. Structs, globals and functions are numbered by their positions.
+/// A typed program, in which all names are resolved and all types agree. Structs, globals and functions are numbered by their indices in
+/// the lists of this record.
 #[derive(Drop)]
 pub struct TypedTree {
     pub structs: Vec<StructType>,
@@ -506,6 +507,6 @@ pub struct TypedTree {
     pub exceptions: Vec<bool>,
     pub globals: Vec<Global>,
     pub functions: Vec<Function>,
-    /// The number of the function named `main`.
+    /// The number that identifies the function named `main`.
     pub main: usize,
 }

@@ -1,4 +1,5 @@
--- Lemmas about values that are passed on after the requirements on them were checked, and about the tree nodes that contain these values.
+-- Lemmas about values that functions receive after the requirements on these values were checked, and about the tree nodes that contain
+-- the values.
 use Rattle.std.proofs.Common.{◌≡◌, Bool, true, false, cond, nat_lt, Option, Some, None, refl, sym, ap, ◌∙◌}
 use Rattle.std.specs.declared.boxed.Box.{Box}
 use Rattle.std.specs.declared.alloc.Global.{Global}

@@ -314,7 +314,7 @@ fn place_reached(alloc: Global, reached: Box<Reached>) -> Result<Box<Found>, Sto
     boxed_place(alloc, Side::Cell { place: cell }, region)
 }
 
-/// Returns a memory cell as an lvalue.
+/// Returns a memory cell that was reached through a pointer, as an lvalue.
 pub fn as_place(alloc: Global, reached: Box<Reached>) -> Result<Box<Found>, Stop>
     ensures { (w : rules.Reached) → IsReached reached w → Gives view_found result (run (rules.reached w)) }
 {

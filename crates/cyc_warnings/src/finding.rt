@@ -5,8 +5,8 @@ use crate::warning::{Found, Warning};
 use cyc_syntax::{Declaration, Tree};
 use std::alloc::Global;
 
-/// Returns the warnings of an accepted program, ordered by their source positions: the first ones, and one more than are shown. If memory
-/// runs out, no warnings are found.
+/// Returns the warnings of an accepted program, ordered by their source positions: the first ones, at most one more than the largest
+/// number that is shown. If memory runs out, no warnings are found.
 pub fn find_warnings(alloc: Global, tree: &Tree, text: &[u8]) -> Vec<Found> {
     let mut finder = Finder::new(alloc, tree);
     for declaration in &tree.declarations {

@@ -96,7 +96,8 @@ pub(crate) struct Suspect {
     pub(crate) local: usize,
 }
 
-/// The locals of a function by their indices, and the array indices that are out of bounds unless their locals are changed.
+/// The locals of a function by their indices. The structure also has the array indices past the end of a local's initial
+/// array, which are out of bounds unless the local is changed.
 #[derive(Drop)]
 pub(crate) struct Locals {
     pub(crate) all: Vec<Local>,

@@ -95,7 +95,7 @@ fn is_before(first: Span, second: Span) -> bool {
     first.line < second.line || first.line == second.line && first.column < second.column
 }
 
-/// The findings ordered by their source positions: the first ones, and one more than are shown.
+/// The warnings of a text, ordered by their source positions: the first ones, at most one more than the largest number that is shown.
 #[derive(Drop)]
 pub(crate) struct Findings {
     all: Vec<Found>,

@@ -1,4 +1,5 @@
--- If an input has at most one correct result, then a call with a correct result satisfies `Decides`.
+-- If an input has at most one correct result, then a call with a correct result satisfies `Decides`,
+-- the contract of accepting or rejecting calls.
 use Rattle.std.proofs.Common.{◌≡◌, ◌⊎◌, inl, inr, ⊎_elim, subst, refl, Result, Ok, Err}
 use Rattle.std.specs.Prelude.{IfOk, IfErr, MatchResult}
 use Rattle.cyc_words.specs.declared.fault.Fault.{Fault}
@@ -28,7 +29,8 @@ module _ {X A : Type 0} (Accepted : A → Type 0) (Gives : A → X → Type 0) (
   decides result accepted refused =
       record { accepted = accepted; refused = refused; accepts = accepts result accepted refused; refuses = refuses result accepted refused }
 
--- If a function `view` computes the accepted value from the result of a call, and the result is correct, then the call satisfies `Decides`.
+-- Let a function `view` compute the accepted value from a call's result. If the result is correct, the call satisfies `Decides`, the
+-- contract of calls that accept or reject.
 pub decides_by_view : {X A : Type 0} (view : X → A) (Accepted : A → Type 0) (Refused Faulty : Fault → Type 0) → IsDecided Accepted Refused Faulty
     → (result : Result X Fault) → IfOk result (λ x. Accepted (view x)) → IfErr result (λ f. (f ≡ memory_fault) ⊎ Refused f)
     → Decides Accepted (λ a x. view x ≡ a) Refused Faulty result

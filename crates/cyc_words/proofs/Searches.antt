@@ -14,7 +14,7 @@ use Rattle.cyc_words.proofs.Booleans.{or_comm, or_false_right}
 
 -- ---- a test of all or of some items
 
--- A test of all items of a list for one that passes may check the last item first.
+-- Testing if some item of a list passes a test may check the last item first.
 pub any_last_first : {A : Type 0} (test : A → Bool) (xs : List A) (x : A) → list_any test (xs ++ x ∷ []) ≡ (test x || list_any test xs)
 any_last_first test xs x =
     list_any-append test xs (x ∷ []) ∙ ap (λ (b : Bool). list_any test xs || b) (or_false_right (test x)) ∙ or_comm (list_any test xs) (test x)

@@ -92,8 +92,8 @@ module _ (above below : Machine) (m : Matching above below) (steps : Steps above
   abbrev Shown : List below.Place → below.State → Type 0
   Shown met now = IsUnderWay above below before m.own start met now ⊎ IsOver above below start now
 
-  -- Says that a path of the upper machine and a run of the lower machine have reached matching states. The cost of the lower run's code
-  -- positions is at most what is allowed.
+  -- Says that a path of the upper machine and a run of the lower machine have reached matching states. The code positions that the
+  -- lower run visited cost at most what the upper machine's path allows.
   record IsMatched (places : List above.Place) (state : above.State) (met : List below.Place) (here : below.State) : Type 0 where
     pub path : Path above places start state
     pub matches : m.Matches state here
@@ -262,7 +262,8 @@ module _ (above below : Machine) (m : Matching above below) (steps : Steps above
       omega (arith, paid price, more, one, first, equal))
       (goes mid step) path)
 
-  -- Each run of the lower machine follows a run of the upper machine, if the positions before the first step reach a match with the start.
+  -- Let the lower machine's steps at its initial code positions reach a state that matches the upper machine's start state. Then each run
+  -- of the lower machine follows a run of the upper machine.
   pub simulates : (from : below.State) → above.status start ≡ Running → Comes below (IsOnTheWay above below start) (m.Matches start) before from → Follows above below before m.own start from
   simulates from running comes = record {
     runs = λ met now path. comes_first [] before from met now running (λ price. omega arith) comes path;
@@ -332,8 +333,9 @@ module _ (above middle below : Machine) (before_middle : List middle.Place) (own
   together first met now (inl u) = goes first met now u (first.runs u.places u.state u.path)
   together first met now (inr o) = over met now o (first.runs o.places o.state o.path)
 
-  -- Two simulations compose. The first assigns code positions of the middle machine to a step, and the second assigns code positions of the
-  -- lowest machine to these. The composition assigns the positions of the lowest machine to the step.
+  -- Two simulations compose. The first simulation assigns code positions of the middle machine to a step. The second simulation assigns
+  -- code positions of the lowest machine to positions of the middle machine. The composition of two simulations assigns the positions of
+  -- the lowest machine to the step.
   pub in_a_row : Follows above middle before_middle own_middle start between → Follows middle below before_below own_below between from
       → Follows above below (before_below ++ flat_map own_below before_middle) (λ p. flat_map own_below (own_middle p)) start from
   in_a_row first second = record { runs = λ met now path. together first met now (second.runs met now path) }
@@ -347,8 +349,8 @@ fewer k n each less =
     omega (arith, times, more)
 
 module _ (above below : Machine) (laws : IsLawful above) (before : List below.Place) (own : above.Place → List below.Place) (start : above.State) (from : below.State) (follows : Follows above below before own start from) where
-  -- The state of the upper machine after n steps, with which the lower machine has caught up. The next lemma is
-  -- the proof from a later state of the upper machine.
+  -- The state of the upper machine after n steps, with which the lower machine has caught up. The next lemma
+  -- proves that the lower machine catches up with n steps, from a later state of the upper machine.
   abbrev After : ℕ → below.State → Type 0
   After n now = (state : above.State) × Run above n start state × ComesTo (above.seen state) (below.seen now)
       × ((ending : Ending) → above.status state ≡ Ended ending → (below.status now ≡ Ended ending) × (below.seen now ≡ above.seen state))
@@ -429,7 +431,7 @@ module _ (above below : Machine) (laws : IsLawful above) (before : List below.Pl
   fails_not met now (inl u) failed = running_failed (sym u.goes_on ∙ failed)
   fails_not met now (inr o) failed = ended_failed o.ending (sym o.over ∙ failed)
 
-  -- No run of the lower machine fails, which is the premise of the next pass.
+  -- No run of the lower machine fails; the simulation of the next compiler pass has this as its premise.
   pub follows-never_fails : NeverFails below from
   follows-never_fails n now run =
       let (met, long, path) = Path-from_run below n from now run in fails_not met now (follows.runs met now path)

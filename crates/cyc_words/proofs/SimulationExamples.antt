@@ -100,7 +100,8 @@ never_reads p =
     never (suc (suc n)) seen = some_none (rest_same letter letter one [] seen)
 
 -- Rejected: the program prints and never reads, but the machine then requests one byte more than the input has. If the input is at its
--- end, the request shows nothing, but the machine cannot know the end in advance. If a byte is left, then the machine reads that byte.
+-- end, the request for a byte shows nothing, but the machine cannot know the end in advance. If a byte of the input is left, then the
+-- machine's request reads that byte.
 pub asks_at_the_end : (each : ℕ)
     → ((input : List ℕ) → Preserves (playing (showing [] input) (showing letter input) (showing letter input)) (playing (showing [] input) (showing letter input) (showing letter (drop 1 input))) each 0 0)
     → ⊥

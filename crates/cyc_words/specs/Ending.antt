@@ -9,7 +9,7 @@ pub data Ending : Type 0 where
   Uncaught : ℕ → ℤ → Ending
   Full : Ending
 
--- Says that two runs ended alike: with equal returned values, with equal uncaught exceptions, or both for lack of space.
+-- Says that two runs ended with equal returned values, with equal uncaught exceptions, or both for lack of space.
 abbrev pub Alike : Ending → Ending → Type 0
 Alike (Returned x) (Returned y) = x ≡ y
 Alike (Uncaught t x) (Uncaught u y) = (t ≡ u) × (x ≡ y)

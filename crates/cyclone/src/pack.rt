@@ -4,7 +4,7 @@ use std::alloc::{AllocError, Global};
 use std::io::Write;
 use std::{fmt, io};
 
-/// The number of bytes in a word, and the number of words that one call of the library prints.
+/// The number of bytes in a word, and the number of words that one call of a library function prints.
 const BYTES: usize = 4;
 
 const WORDS: usize = 8;

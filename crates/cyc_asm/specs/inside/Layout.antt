@@ -20,8 +20,9 @@ is_near code from to =
     nat_le (most_before code to) (most_before code from + MAX_REACH)
     && nat_le (most_before code from) (most_before code to + MAX_REACH)
 
--- Returns the number of words of a branch or jump at the position of its own line. If its delay slot is filled, the branch
--- is one word earlier, at the previous line's position, and the instruction in the delay slot is at the branch's position.
+-- Returns the number of words of a branch or jump at the position of its own line. A branch or jump with a filled delay
+-- slot is one word earlier, at the previous line's position. The instruction that fills the delay slot of a branch or jump
+-- is at the position of the branch's or jump's own line.
 abbrev pub head_width : Option Instr → ℕ
 head_width (Some instruction) = 0
 head_width None = 1

@@ -1,6 +1,6 @@
--- The order of instructions in the text. If the instruction just before a branch or jump cannot fill its delay slot, one of the two
--- instructions before it may. The instruction that fills the slot is moved down past the instructions in between, if it commutes with
--- them. The choice of moved instructions is this project's own.
+-- The order of instructions in the text. If the instruction just before a branch or jump cannot fill the delay slot, one of the two
+-- instructions before that instruction may fill it. The instruction that fills the slot is moved down past the instructions in
+-- between, if it commutes with them. The choice of moved instructions is this project's own.
 use Rattle.std.specs.Prelude.{ℕ, zero, suc, ◌+◌, ◌-◌, Bool, true, false, not, nat_le, ◌&&◌, if◌then◌else◌, List, length, Option, Some, slice_get}
 use Rattle.std.specs.List.{swap}
 use Rattle.std.specs.Option.{is_some}
@@ -58,8 +58,8 @@ sunk code from (suc count) = swap (sunk code from count) (from + count) (from + 
 abbrev pub sunk_from : List Line → (from count : ℕ) → List Line
 sunk_from code from count = if comes_down code from count then sunk code from count else code
 
--- Returns the lines of the code after one instruction is moved down to the branch or jump at line `number`. The instruction is
--- `count` lines before that line, and it moves only if it then fills the delay slot.
+-- Returns the lines of the code after one instruction is moved down to the branch or jump at line `number`. The instruction to
+-- be moved passes the `count` lines just before line `number`, and it is moved only if it then fills the delay slot.
 abbrev pub tried : List Line → (number count : ℕ) → List Line
 tried code number count =
     if nat_le number count then code

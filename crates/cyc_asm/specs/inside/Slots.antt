@@ -1,6 +1,6 @@
 -- This file defines the delay slots that an instruction fills. The instruction just before a branch or jump fills its delay slot, unless
--- the move changes the effect of this instruction or of the branch or jump. The instruction does not fill the delay slot if another line
--- jumps to the branch or jump. The rule for filling delay slots is this project's own choice.
+-- the move changes the effect of this instruction or of the branch or jump. No instruction fills the delay slot of a branch or jump to
+-- which another line jumps. The rule for filling delay slots is this project's own choice.
 use Rattle.std.specs.Prelude.{◌≡◌, ℕ, zero, suc, ◌<◌, Bool, true, false, not, ◌==◌, ◌&&◌, ◌||◌, if◌then◌else◌, List, length, Option, Some, None, slice_get, get_or}
 use Rattle.std.specs.List.{list_any}
 use Rattle.cyc_isa.specs.Uses.{reads, writes}
@@ -28,9 +28,9 @@ leaves instruction (conditions.Registers op left right) =
     not (writes instruction left.number) && not (writes instruction right.number)
 leaves instruction (conditions.Sign op source) = not (writes instruction source.number)
 
--- Returns true if an instruction may be executed after a branch or jump instead of before it. The instruction must write no register
--- that the branch or jump reads or writes, and read no register that the branch or jump writes. A call writes register 31, and a return
--- reads it.
+-- Returns true if an instruction may be executed after a branch or jump instead of before it. An instruction may be executed after a
+-- branch or jump only if it writes no register that the branch or jump reads or writes. The instruction must also read no register that
+-- the branch or jump writes. A call writes register 31, and a return reads it.
 abbrev pub moves : Instr → Line → Bool
 moves instruction (lines.Ordinary other) = false
 moves instruction (lines.Branch condition label) = is_movable instruction && leaves instruction condition

@@ -127,7 +127,7 @@ abbrev pub own : (ℕ → ℕ) → ℕ → List ℕ
 own addresses number = stretch (addresses number) ((addresses (suc number) - addresses number) / 4)
 
 -- `IsTextInOrder` says that the words of the text represent the labelled code with its lines in the order of `order`. The text contains
--- nothing else: each word belongs to exactly one line.
+-- no word besides the lines' words: each word of the text is among the own words of exactly one line.
 pub record IsTextInOrder (code order : Labelled) (addresses : ℕ → ℕ) (words : List ℕ) : Type 0 where
   pub places : AreAddresses code addresses
   pub first : addresses 0 ≡ text_base

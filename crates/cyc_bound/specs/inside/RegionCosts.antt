@@ -25,7 +25,7 @@ abbrev pub IsAtOnceFound : Program → Measure → Option ℕ → Type 0
 IsAtOnceFound program m (Some cost) = IsAtOnce program m cost
 IsAtOnceFound program m None = StillGrow program m
 
--- says that a measure is one of those that determine the pages of regions
+-- says that a measure (a kind of counted cost) is one of those that determine the number of pages of regions
 abbrev pub IsOfRegions : Measure → Type 0
 IsOfRegions (measures.Uniques class) = ⊥
 IsOfRegions m = Unit {0}

@@ -1,4 +1,4 @@
--- The remaining cost of a run in each of its states is the cost of the focus plus the costs of all stack entries down to `main`. No step
+-- In each state of a run, its remaining cost is that of the focus (next action) plus those of all stack entries down to `main`. No step
 -- raises the remaining cost, and a step that allocates lowers it by the cost of the allocation. Each stack entry costs at least the step
 -- that pops it. The definition of remaining costs is this project's own choice.
 use Rattle.std.specs.Prelude.{ℕ, zero, suc, ◌+◌, ◌*◌, ◌-◌, nat_le, if◌then◌else◌, max, ◌≤◌, List, [], ◌∷◌, length, Option, None, Some}
@@ -17,8 +17,8 @@ use Rattle.cyc_bound.specs.Costs.{place_cost, initial_cost, fields_cost, convert
 
 -- ---- what is known of an awaited value
 
--- the facts known about the value that a stack entry awaits: no value; an unknown value; a value of a known kind; for
--- an int, possibly a known value
+-- the facts about the value that a stack entry will receive: no value, an unknown one, or one of a known
+-- representation kind (for an int, possibly its number)
 pub data Delivery : Type 0 where
   Nothing : Delivery
   Anything : Delivery
@@ -62,8 +62,8 @@ abbrev pub bytes_before : List Operand → ℕ
 bytes_before [] = 0
 bytes_before (v ∷ before) = following v.kind (bytes_before before)
 
--- The cost of a struct field for whose value a stack entry waits. If no value is passed to the entry, the cost is one step. If the value's
--- kind is unknown, the cost is the greatest counted value.
+-- The cost of a struct field for whose value a stack entry waits. If no value is passed to the entry, the cost is one step. If the
+-- representation kind of the value (int, char, pointer, ..) is unknown, the cost is the greatest counted value.
 abbrev pub field_awaited : Measure → (fields : Kind → ℕ) → Delivery → ℕ
 field_awaited m fields Nothing = step_cost m
 field_awaited m fields Anything = too_many

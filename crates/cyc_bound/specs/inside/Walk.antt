@@ -10,8 +10,8 @@ use Rattle.cyc_bound.specs.Bound.{most_calls, IsHeight}
 abbrev pub AreHeights : Program → List ℕ → Type 0
 AreHeights program heights = (f : ℕ) → 0 < get_or heights f 0 → IsHeight program f (get_or heights f 0) × (get_or heights f 0 ≤ most_calls)
 
--- says that, if a function's height (length of its longest chain of calls) was found, the path is unchanged and
--- the table of heights correct
+-- says that, if a function's height (length of its longest chain of calls) was found, the path being searched
+-- is unchanged and the table of heights correct
 abbrev pub GoesOn : Program → (before after heights : List ℕ) → CallBound → Type 0
 GoesOn program before after heights (bounds.Calls count) = (after ≡ before) × AreHeights program heights
 GoesOn program before after heights bound = Unit {0}

@@ -1,5 +1,6 @@
--- This file defines the result of checking the values of a call of a plain signature, if the check finds no fault. In a plain signature,
--- each region of a parameter is a region variable that occurs only once. The regions of the values of such a call only have to be live.
+-- This file defines the result of checking, without a fault, the values of a call of a plain signature. In a plain signature, each
+-- region of a parameter is a region variable that occurs only once. The regions of the values that are passed to a plain signature only
+-- have to be live.
 use Rattle.std.specs.Prelude.{◌≡◌, true, false, not, ◌&&◌, nat_eq, List, [], ◌∷◌, length}
 use Rattle.cyc_types.specs.declared.region.Region.{Region}
 use Rattle.cyc_types.specs.declared.region.Region.TheVariants.{Heap, Unique}

@@ -15,8 +15,8 @@ pub record AreInRange (pages calls : Option ℕ) : Type 0 where
   pub pages_fit : IfSome pages (λ n. (MIN_PAGES ≤ n) × (n ≤ MAX_PAGES))
   pub calls_fit : IfSome calls (λ n. (MIN_CALLS ≤ n) × (n ≤ MAX_CALLS))
 
--- The limits on pages and calls that are stored in a compiled image. If neither limit is given, no limits are stored; if
--- only one limit is given, the default is stored for the other limit.
+-- The limits on pages and calls that are stored in a compiled image. If neither the limit on pages nor that on calls is
+-- given, no limits are stored; if only one is given, the default is stored for the other.
 abbrev pub carried_by : (pages calls : Option ℕ) → Option (ℕ × ℕ)
 carried_by None None = None
 carried_by None (Some calls) = Some (DEFAULT_PAGES, calls)

@@ -1,4 +1,4 @@
--- The result of the code that collects a program's declarations, stated as the result of the typing rules.
+-- The result of the checker's code that collects a program's declarations, stated as the result of the typing rules.
 use Rattle.std.specs.Prelude.{ℕ, List, [], ◌∷◌, Ok}
 use Rattle.cyc_words.specs.declared.fault.Code.TheVariants as codes
 use Rattle.cyc_syntax.specs.Trees.{Declaration}

@@ -1,4 +1,4 @@
--- The state of the code while it adds the declarations of a program one after the other.
+-- The state of the checker's code while it adds the declarations of a program one after the other.
 use Rattle.std.specs.Prelude.{ℕ, suc, List, [], ◌∷◌, ◌++◌, map, Option}
 use Rattle.cyc_syntax.specs.Trees.{Named, Member, WrittenType, Parameters, Constructor, Declaration, StructType, Exceptions, Global, Function}
 use Rattle.cyc_types.specs.declared.region.Region.TheVariants.{Heap}

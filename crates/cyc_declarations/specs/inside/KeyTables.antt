@@ -1,4 +1,5 @@
--- The regions that have a key among the types of a signature, as the code computes them, and the regions of the signature's effect.
+-- The regions that have a key among the types of a signature, as the checker's code computes them, and the regions of the
+-- signature's effect.
 use Rattle.std.specs.Prelude.{◌≡◌, ℕ, zero, suc, Bool, not, nat_eq, ◌&&◌, if◌then◌else◌, List, [], ◌∷◌, map, Option, Some, None}
 use Rattle.std.specs.List.{list_any}
 use Rattle.cyc_words.specs.declared.fault.Code.TheVariants as codes
@@ -27,8 +28,8 @@ abbrev pub without : Keys → (count from : ℕ) → List Region
 without k zero n = []
 without k (suc m) n = if has k (Variable n) then without k m (suc n) else Variable n ∷ without k m (suc n)
 
--- the effect of a function (the regions that must be live at a call); an omitted effect consists of all region variables in question that
--- have no key
+-- the effect of a function (the regions that must be live at a call); an omitted effect consists of all region variables of the function
+-- without a key
 abbrev pub effect_by : List RegionName → Keys → (variables : ℕ) → Option (List Named) → List Region
 effect_by names k n None = without k n 1
 effect_by names k n (Some rs) = map (region_of names) rs

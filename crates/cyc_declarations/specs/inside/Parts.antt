@@ -1,4 +1,5 @@
--- A typed program consists of its functions and of other parts (structs, exceptions, globals, `main`), which the code returns separately.
+-- A typed program consists of its functions and of other parts (structs, exceptions, globals, `main`), which the checker's code returns
+-- separately.
 use Rattle.std.specs.Prelude.{List, map}
 use Rattle.cyc_syntax.specs.Trees.{Declaration}
 use Rattle.cyc_types.specs.TypedTrees.{Function, Program}

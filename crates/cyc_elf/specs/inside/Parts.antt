@@ -1,6 +1,6 @@
--- The results of the parts of the file reader, such as the traversal of the program headers. The reader's own contract does not cite
--- these definitions: `proofs/` shows that the parts together implement the rules. The division of the reader into parts is this
--- project's own choice.
+-- The results of the separate functions of the file reader, such as the traversal of the program headers. The reader's own contract
+-- does not cite these definitions: `proofs/` shows that the functions together implement the rules. The division of the reader into
+-- parts is this project's own choice.
 use Rattle.std.specs.Prelude.{ℕ, ◌+◌, ◌^◌, ◌<◌, Bool, true, not, ◌&&◌, nat_le, ◌==◌, if◌then◌else◌, Option, Some, None, is_some, List, [], ◌∷◌, ◌++◌, map}
 use Rattle.std.specs.List.{list_any}
 use Rattle.cyc_elf.specs.declared.fault.ElfFault.{ElfFault}
@@ -24,11 +24,12 @@ abbrev pub step : (known : Option (ℕ × ℕ)) → ProgramHeader → Option Elf
 step known h (Some f) rest = record { loads = []; note = known; fault = Some f }
 step known h None rest = record { loads = if is_load h then h ∷ rest.loads else rest.loads; note = rest.note; fault = rest.fault }
 
--- Returns the limits on pages and calls known after a program header, given those known before it.
+-- Returns the limits on pages and calls that a program header states if it is a note with limits,
+-- otherwise the limits that earlier headers stated.
 abbrev pub noted : List ℕ → (known : Option (ℕ × ℕ)) → ProgramHeader → Option (ℕ × ℕ)
 noted file known h = if is_note file h then Some (limits_at file h.offset) else known
 
--- Traverses program headers, starting with the limits on pages and calls that earlier headers gave.
+-- Traverses program headers, starting with the limits on pages and calls that earlier headers state, if any.
 abbrev pub walk : List ℕ → (known : Option (ℕ × ℕ)) → List ProgramHeader → Walk
 walk file known [] = record { loads = []; note = known; fault = None }
 walk file known (h ∷ rest) = step known h (first_fault (own_rules file (is_some known) h)) (walk file (noted file known h) rest)

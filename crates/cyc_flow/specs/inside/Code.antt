@@ -1,4 +1,5 @@
--- The relation between the code and the flow rules: the flow states that the code computes, and the results of its functions.
+-- The relation between the code of the flow checker and the flow rules: the flow states that this code computes, and the
+-- results of its functions.
 use Rattle.std.specs.Prelude.{◌≡◌, ℕ, Bool, true, ◌&&◌, List, [], ◌∷◌, Option, Some, None, Result, Ok, Err}
 use Rattle.cyc_words.specs.declared.fault.Fault.{Fault}
 use Rattle.cyc_words.specs.Fault.{memory_fault}
@@ -27,7 +28,7 @@ abbrev pub view_state : StateCode → State
 view_state states.Unreached = Unreached
 view_state (states.Reached t) = Reached (view_table t)
 
--- Returns the flow state before these changes, which are undone from the last to the first.
+-- Returns the flow state before a list of recorded changes, which are undone from the last to the first.
 abbrev pub undone : List Change → State → State
 undone [] f = f
 undone (c ∷ cs) f = with_fullness (view_fullness c.before) (undone cs f) c.number
@@ -62,13 +63,14 @@ abbrev pub fault_of : Stop → Fault
 fault_of stops.Memory = memory_fault
 fault_of (stops.Refused x n) = x
 
--- `Stops` says that the fault that the code reports is the fault that the flow rule determines. If memory runs out, `Stops` claims nothing.
+-- `Stops` says that the fault that the code reports is the fault that the flow rule determines. If the compiler itself runs out of memory,
+-- `Stops` claims nothing.
 abbrev pub Stops : {Y : Type 0} → Stop → Checked Y → Type 0
 Stops stops.Memory checked = Unit {0}
 Stops (stops.Refused x n) checked = checked ≡ Err x
 
--- `Ends` says that the flow check continues if it has found no fault, and otherwise stops with the fault found; it never runs out
--- of memory.
+-- `Ends` says that the flow check continues if it has found no fault, and otherwise stops with the fault found. In both cases the
+-- compiler has not run out of memory.
 abbrev pub Ends : Result (Unit {0}) Stop → Option Fault → Type 0
 Ends (Ok u) fault = fault ≡ None
 Ends (Err stops.Memory) fault = ⊥
@@ -80,13 +82,13 @@ Allows (Ok u) checked = checked ≡ Ok tt
 Allows (Err e) checked = Stops e checked
 
 -- `Leads` says that the code's flow state after an expression is that of the flow rule, and that the expression began in the state
--- `start`. `Leads` also says that the list of touched (consumed, assigned or locked) locals is the given one.
+-- `start`. `Leads` also says that `ns` lists the touched (consumed, assigned or locked) locals.
 abbrev pub Leads : Result (Unit {0}) Stop → (following : Evaluation) → Checked State → List ℕ → (start : State) → Type 0
 Leads (Ok u) v checked ns start = (checked ≡ Ok (view_state v.state)) × (v.touched.numbers.list ≡ ns) × (begun v ≡ start)
 Leads (Err e) v checked ns start = Stops e checked
 
--- `Gives` says that the code's result for a whole expression agrees with the flow rule: the flow state after the expression,
--- and the locals touched (consumed, assigned or locked) in it.
+-- `Gives` says that the flow checker's result for a whole expression agrees with the flow rule: the flow state after the
+-- expression, and the locals touched (consumed, assigned or locked) in it.
 abbrev pub Gives : Result Tracked Stop → Checked State → List ℕ → Type 0
 Gives (Ok t) checked ns = (checked ≡ Ok (view_state t.state)) × (t.touched.numbers.list ≡ ns)
 Gives (Err e) checked ns = Stops e checked
@@ -94,14 +96,14 @@ Gives (Err e) checked ns = Stops e checked
 abbrev pub known : State → State → Known
 known f breaks = record { now = f; breaks = breaks }
 
--- `GivesKnown` says that the code's result for a statement agrees with the flow rule; its last argument is the flow state
--- at the `break` statements so far.
+-- `GivesKnown` says that the flow checker's result for a statement agrees with the flow rule. Its last argument is the
+-- flow state at the `break` statements that were checked so far.
 abbrev pub GivesKnown : Result Tracked Stop → Checked Known → List ℕ → State → Type 0
 GivesKnown (Ok t) checked ns breaks = (checked ≡ Ok (known (view_state t.state) breaks)) × (t.touched.numbers.list ≡ ns)
 GivesKnown (Err e) checked ns breaks = Stops e checked
 
--- `GivesClauses` says that the code's result for the first catch clauses of a `try` agrees with the flow
--- rule, whatever clauses come after them.
+-- `GivesClauses` says that the flow checker's result for the first catch clauses of a `try` agrees with
+-- the flow rule, whatever clauses come after them.
 abbrev pub GivesClauses : Around → State → Result Tracked Stop → (clauses : Clauses → Clauses) → Known → List ℕ → State → Type 0
 GivesClauses c start (Ok t) clauses k ns breaks =
     (rest : Clauses) → (run (rule_clauses c start (clauses rest) k) ≡ run (rule_clauses c start rest (known (view_state t.state) breaks))) × (touched_clauses (clauses rest) ns ≡ touched_clauses rest t.touched.numbers.list)

@@ -9,7 +9,8 @@ is_among n (m ∷ ms) = (n == m) || is_among n ms
 abbrev pub has_number : (words : List ℕ) → (n : ℕ) → Bool
 has_number ws n = has_bit (get_or ws (n / 64) 0) (n % 64)
 
--- `Stand` says that a number is in the given list exactly if the bit with this number is set in the given words.
+-- `Stand` says that the words `ws` represent the list `ns` as a bit set: a number is in `ns` exactly if the bit
+-- with this number is set in `ws`.
 abbrev pub Stand : List ℕ → List ℕ → Type 0
 Stand ws ns = (n : ℕ) → has_number ws n ≡ is_among n ns
 

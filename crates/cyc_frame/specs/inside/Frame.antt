@@ -2,9 +2,10 @@
 use Rattle.std.specs.Prelude.{ℕ, Bool, List}
 use Rattle.cyc_registers.specs.declared.home.Home.{Home}
 
--- The fields of a frame in order: the word of the return address; a flag that is true if it is saved at the entry; the first word for saved
--- registers and their number; the word of slot 0; the number of parameters; the home (register or memory) of each slot; the instructions
--- that need no machine code; the instructions whose first line may fill delay slots.
+-- The first fields of a frame are the word of the return address, and a flag that is true if the return address is saved at the function's
+-- entry. Then come the first word for saved registers, their number, the word of slot 0, and the number of parameters. The last fields are
+-- the home (register or memory) of each slot, the instructions that need no machine code, and the instructions whose first line of assembly
+-- code may fill delay slots.
 pub record Frame : Type 0 where
   pub return_address : ℕ
   pub saves : Bool

@@ -77,8 +77,9 @@ frame_at frames function =
 abbrev pub AllReturn : Program → Type 0
 AllReturn program = (k : ℕ) → k < length program.functions → returns_any (routine_at program k).code ≡ true
 
--- `AreFirstFrames` says that the frames of the first `count` functions are correct. So are, in these functions, the homes of slots, the
--- instructions marked as needing no machine code, and the filled delay slots. No frame of these functions saves more than `most` registers.
+-- `AreFirstFrames` says that the frames of the first `count` functions are correct. In these functions, the homes (registers or memory) of
+-- slots, the instructions marked as needing no machine code, and the filled delay slots are correct too. No frame of these functions saves
+-- more than `most` registers.
 pub record AreFirstFrames (program : Program) (count most : ℕ) (frames : List Frame) : Type 0 where
   pub as_many : length frames ≡ count
   pub each : (k : ℕ) → k < count → IsFrame (routine_at program k) (frame_at frames k)

@@ -69,7 +69,7 @@ status_of NoMemory = 8
 status_of Usage = 9
 status_of Unformatted = 1
 
--- A fault of lack of memory has no source position and does not mean that the text is rejected.
+-- If the compiler runs out of its own memory, this fault has no source position and does not mean that the text is rejected.
 abbrev pub answer_of_fault : Fault → Answer
 answer_of_fault fault = elim fault.code [ Memory ↦ NoMemory | _ ↦ Refused fault ]
 

@@ -1,4 +1,5 @@
--- The program's answers to the commands that run, list or describe an image, stated in terms of the results of the crates that it uses.
+-- The command-line program's answers to the commands that run, list or describe an image, stated in terms of the results of the crates
+-- used.
 use Rattle.std.specs.Prelude.{◌≡◌, ◌⊎◌, ℕ, Bool, true, false, IfSome, is_some, List, Option, Some, None, Result, Ok, Err}
 use Rattle.std.specs.Io.KnownBytes.{Appends, Keeps}
 use Rattle.cyc_words.specs.Device.{AppendsPrefix}
@@ -37,7 +38,7 @@ answer_of_listing (Err fault) = answer_of_run_fault fault
 abbrev pub AreLimitsFor : List ℕ → (given caps : Given) → Bounds → Type 0
 AreLimitsFor image given caps limits = (read : ImageContents) × (reading image ≡ Ok read) × (limits ≡ capped_by caps (limits_by given read.note))
 
--- Says that the answer to bytes that are not an image names the violated rule for images, unless memory ran out.
+-- Says that, for bytes that are not an image, the answer to the command names the violated rule for images, or says that memory ran out.
 abbrev pub AnswersNoImage : List ℕ → Answer → Type 0
 AnswersNoImage image answer = (answer ≡ NoMemory) ⊎ ((fault : ElfFault) × (reading image ≡ Err fault) × (answer ≡ answer_of_run_fault (Elf fault)))
 

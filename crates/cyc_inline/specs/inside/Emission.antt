@@ -93,8 +93,8 @@ AreLeafs program lines = (k : ℕ) → 0 < place_in lines k → IsLeaf (routine_
 abbrev pub call_size : Program → (in_line : Bool) → Call → ℕ
 call_size program in_line call = site_size call (routine_at program call.callee).results in_line (routine_at program call.callee).code
 
--- Says that the callee of a call exists and has at most `MOST_LEAF_CODE` instructions, and that the
--- call's `count` is at most `MOST_GROWTH`.
+-- Says that the callee of a call exists and has at most `MOST_LEAF_CODE` instructions, and that at
+-- most `MOST_GROWTH` words of arguments are passed.
 pub record IsSmallCall (program : Program) (call : Call) : Type 0 where
   pub is_function : call.callee < length program.functions
   pub few : length (routine_at program call.callee).code ≤ MOST_LEAF_CODE

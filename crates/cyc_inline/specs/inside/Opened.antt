@@ -66,7 +66,7 @@ is_end instruction = None
 
 -- ---- the origins of the code
 
--- An instruction of the source program, as the origin of one or more instructions.
+-- An instruction of the source program, from which one or more instructions of the inlined program are made.
 abbrev pub origin_at : (function index : ℕ) → Origin
 origin_at function index = record { function = function; index = index }
 

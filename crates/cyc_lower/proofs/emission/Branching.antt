@@ -179,7 +179,7 @@ module _ (starts : Starts) (value : Stmt) (region : ℕ) (v : Vec ItemCode Heap)
 -- ---- branches
 
 -- The module assumes a condition followed by two pieces of code, each after a jump whose target is set later. If the condition fails, the
--- jump after it and the condition's inner jumps go to the second of these two pieces of code.
+-- jump after it and its inner jumps go to the second of the two pieces of code that follow the condition.
 module _ (old : List Instruction) (condition : ℕ → List Instruction) (aim : ℕ → List Instruction → List Instruction) (aims : (rest : List Instruction) (target : ℕ) → aim target (old ++ (condition 0 ++ rest)) ≡ old ++ (condition target ++ rest)) (same : (target : ℕ) → length (condition target) ≡ length (condition 0)) (x y : Instruction) (first second : ℕ → List Instruction) (over : ℕ → Instruction) (out : ℕ → Instruction) (m0 m1 m2 m3 m4 m5 m6 : List Instruction) where
   pub branched : m0 ≡ old ++ condition 0 → m1 ≡ m0 ++ x ∷ [] → m2 ≡ m1 ++ first (length m1) → m3 ≡ m2 ++ y ∷ [] → m4 ≡ aim (length m3) (set m3 (length m0) (over (length m3)))
       → m5 ≡ m4 ++ second (length m4) → m6 ≡ set m5 (length m2) (out (length m5)) → (p : ℕ) → p ≡ length old + length (condition 0) + 1 → (q : ℕ) → q ≡ p + length (first p) + 1

@@ -196,7 +196,8 @@ module _ (starts : Starts) where
     omega (arith, low, no_shorter_than old _ code made),
   )
 
-  -- The comparison that decides the last operand of an operator chain stays the same if one operand is handled before the remaining ones.
+  -- The comparison that decides the last operand of an operator chain does not change if the chain's next operand is handled separately
+  -- before the remaining ones.
   last_more : (o : Operation) (os : List Operation) (c : Condition) (t : ℕ) → last_condition starts (operations_of (o ∷ os)) c t ≡ last_condition starts (operations_of os) (next_other t o os c) t
   last_more (operation.Test o e) os c t = refl
   last_more (operation.Compute w o e) os c t = refl
@@ -224,7 +225,8 @@ module _ (starts : Starts) where
             ∙ append_assoc old first (others_code starts u (operations_of os) (condition_of starts a t) following (length old + length first) t),
       )
 
-  -- A condition that is a chain of logical operators is emitted as tests, and any other chain as a value or a comparison.
+  -- A condition that is a chain of logical operators is emitted as tests of its operands. A condition that is any other
+  -- chain is emitted as a value or a comparison.
   pub chain_chosen : (u : LogicalOperator) (a : Expression) (os : Operations) (ty : Ty) (whole : Expression) (answer : Condition) (old new : List Instruction) (t : ℕ) → whole ≡ Binary a os ty → are_tests u os ≡ true
       → (answer ≡ last_condition starts os (condition_of starts a t) t) × (new ≡ old ++ tests_code starts u a os (after_tests starts u a os (length old) t) (length old) t)
       → (answer ≡ choice_of starts u whole t) × (new ≡ old ++ choice_code starts u whole (length old) t)
@@ -282,7 +284,8 @@ failed_place js target old i code none inside (rest, long, before) =
 pub failed_done : (js : List Pending) (target : ℕ) (old : List Instruction) (i : ℕ) (code : List Instruction) → length js ≤ i → FailedRest js target old i code → code ≡ failed js target old
 failed_done js target old i code done (rest, long, before) = sym (ap (λ (l : List Pending). failed l target code) (drop_all i js done)) ∙ rest
 
--- The result proved for the emitted code of one condition also holds for another condition whose code is equal.
+-- The contract proved for the emitted code of a condition also holds for any second condition that has the same
+-- code and the same deciding comparison.
 same_tested : (last again : Condition) (code other : ℕ → List Instruction) (old new : List Instruction) (tested : Tested) → again ≡ last → ((x : ℕ) → other x ≡ code x) → IsTested last code old new tested → IsTested again other old new tested
 same_tested last again code other old new tested answers same (last_is, aims, before, made) = (
   last_is ∙ sym answers,
@@ -380,7 +383,8 @@ module _ (starts : Starts) where
   others_before u (operation.Pointer o e ∷ os) c p t all = absurd (let z : false ≡ true = all in cc)
   others_before u (operation.PointerPeek n o e ∷ os) c p t all = absurd (let z : false ≡ true = all in cc)
 
-  -- The condition of a branch is emitted in two ways: for a chain of the given logical operator, and for any other expression.
+  -- The condition of a branch is emitted operand by operand if it is a chain of the given logical operator, and otherwise as
+  -- any other expression.
   tests_all : (u : LogicalOperator) (os : List Operation) → are_tests u (operations_of os) ≡ true → all_test u (operations_of os) ≡ true
   tests_all u [] tests = refl
   tests_all u (operation.Test o e ∷ os) tests = tests
@@ -431,8 +435,8 @@ module _ (starts : Starts) where
       (λ x. ap (λ (z : Expression). branch_code starts u z x p t) is ∙ ap (λ (b : Bool). if b then tests_code starts u a os x p t else choice_code starts (turned_test u) (Binary a os ty) p t) other ∙ ap (λ (z : Expression). choice_code starts (turned_test u) z p t) (sym is))
       made
 
-  -- `IsBare` concerns a condition that is neither a negation nor a chain of the given operator (`&&` or `||`). `IsBare` says that this
-  -- condition is emitted so that a chain of the other operator is emitted operand by operand.
+  -- `IsBare` concerns a condition that is neither a negation nor a chain of the given operator (`&&` or `||`). `IsBare` says that a
+  -- condition that is a chain of the other operator (`&&` for `||`, or the reverse) is emitted operand by operand.
   abbrev pub IsBare : LogicalOperator → Expression → (t : ℕ) → Type 0
   IsBare u a t = (branch_of starts u a t ≡ choice_of starts (turned_test u) a t) × ((x p : ℕ) → branch_code starts u a x p t ≡ choice_code starts (turned_test u) a p t)
 

@@ -58,8 +58,8 @@ operates starts o l r d = omega arith
 
 -- ---- lists
 
--- `Lowers` says that the code of a list of tree nodes is emitted one node after the other. Each tree node has a code position and a
--- state, such as the next slot. The code of a tree node may depend on the tree nodes after it in the list.
+-- `Lowers` says that the code of a list of tree nodes is emitted one node after the other. Each tree node of the list is emitted at a code
+-- position and for a state, such as the index of the next slot. The code of a tree node may depend on the tree nodes after it in the list.
 pub record Lowers {X S : Type 0} (all : List X → ℕ → S → List Instruction) (one : X → List X → ℕ → S → List Instruction) (next : X → List X → S → S) : Type 0 where
   pub none : (p : ℕ) (s : S) → all [] p s ≡ []
   pub more : (x : X) (xs : List X) (p : ℕ) (s : S) → all (x ∷ xs) p s ≡ one x xs p s ++ all xs (p + length (one x xs p s)) (next x xs s)
@@ -97,7 +97,7 @@ module _ {X S : Type 0} (all : List X → ℕ → S → List Instruction) (one :
       ∙ ap (λ (ys : List X). code ++ all ys (length code) s) (sym (drop_all i xs done))
       ∙ r
 
--- The result of the last operator of a chain goes to slot `d`, and that of any other operator to slot `t`.
+-- The result of the last operator of a chain goes to slot `d`, and that of any earlier operator of the chain goes to slot `t`.
 next_slot_some : (o : Operation) (os : List Operation) (d t : ℕ) → next_slot (operations_of (o ∷ os)) d t ≡ t
 next_slot_some (operation.Compute w o e) os d t = refl
 next_slot_some (operation.Test o e) os d t = refl

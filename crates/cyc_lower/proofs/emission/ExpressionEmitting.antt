@@ -272,7 +272,7 @@ module _ (starts : Starts) where
       (e2 ∙ ap (λ (os' : List Operation). m1 ++ operations_code starts (operations_of os') (length m1) l d t) (same_others ∙ sym same) ∙ ap (λ (o : Operand). m1 ++ operations_code starts os (length m1) o d t) l_is)
       ∙ ap (λ (x : Expression). old ++ expression_code starts x (length old) d t) (sym (binary_viewed value b v ty is first at items same))
 
-  -- After the left operand of a chain of operators is emitted, the index of the next free slot is still within the limit.
+  -- After the left operand of a chain of operators is emitted, the index of the next free slot is still within the limit of slot indices.
   pub room_following : (a : Expression) (os : Operations) (old new : List Instruction) (d t : ℕ) → t ≤ most_locals + length old → new ≡ old ++ left_code starts a os (length old) d t → t ≤ most_locals + length new
   room_following a os old new d t low is = omega (arith, low, no_shorter_than old _ new is)
 
@@ -334,7 +334,7 @@ module _ (starts : Starts) where
       (e2 ∙ ap (λ (x : Operand). m1 ++ operator_code starts o l x d) (r_is ∙ ap (value_operand starts a) next))
       ∙ ap (λ (x : Operation). old ++ operation_code starts x (length old) l d t) (sym is)
 
-  -- After one operator of a chain is emitted, the index of the next free slot is still within the limit.
+  -- After one operator of a chain is emitted, the index of the next free slot is still within the limit of slot indices.
   pub room_after : (x : Operation) (old new : List Instruction) (l : Operand) (d t : ℕ) → t ≤ most_locals + length old → new ≡ old ++ operation_code starts x (length old) l d t → t ≤ most_locals + length new
   room_after x old new l d t low is = omega (arith, low, no_shorter_than old _ new is)
 
@@ -384,7 +384,7 @@ module _ (starts : Starts) where
 
   -- ---- written cells
 
-  -- The code that puts an address into a slot has at least one instruction, so the next slot is within the limit.
+  -- The code that puts an address into a slot has at least one instruction, so the next slot's index is within the limit of slot indices.
   pub room_for_right : (x : Dereference) (old new : List Instruction) (t : ℕ) → t ≤ most_locals + length old
       → new ≡ old ++ addressed_by (place_code starts x (length old) t) (place_operand starts x t) (place_offset starts x) t → t < most_locals + length new
   room_for_right x old new t low made =

@@ -1,5 +1,5 @@
--- The code of exception handlers is emitted piece by piece: catch clauses, whose jumps get their targets later. Slots other than
--- those of variables are needed, for example for handler records.
+-- The code of exception handlers is emitted piece by piece: catch clauses, whose jumps get their targets later. The code of
+-- exception handlers also needs slots other than those of variables, for example for handler records.
 use Rattle.std.proofs.Common.{◌≡◌, ℕ, zero, suc, ◌+◌, ◌≤◌, ◌<◌, List, [], ◌∷◌, ◌++◌, length, get_or, set, Option, None, Some, refl, sym, ap, ◌∙◌, arith, append_assoc, length-set}
 use Rattle.std.proofs.lemmas.List.{drop_all, length-append}
 use Rattle.std.specs.declared.vec.Vec.{Vec}

@@ -1,5 +1,5 @@
--- The code of loops is emitted piece by piece, with two jumps whose targets are set later. One jump goes to the end of the loop, the
--- other to the condition after the body.
+-- The code of loops is emitted piece by piece, with two jumps whose targets are set later. Of these two jumps of a loop, one goes to
+-- the end of the loop, the other to the condition after the body.
 use Rattle.std.proofs.Common.{◌≡◌, ℕ, ◌+◌, Bool, true, false, List, [], ◌∷◌, ◌++◌, length, set, refl, sym, ap, ◌∙◌, arith, append_assoc, subst}
 use Rattle.std.specs.Prelude.{if◌then◌else◌}
 use Rattle.std.proofs.lemmas.List.{length-append, length-set}

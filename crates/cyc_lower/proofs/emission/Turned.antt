@@ -1,5 +1,5 @@
--- The loop that changes all jump targets of code visits all of the code. It replaces a target at some distance
--- after one position by the one at this distance after a nearer position.
+-- The loop that changes all jump targets of code visits all of the code. The loop that changes jump targets
+-- replaces a target at some distance after one position by the one at this distance after a nearer position.
 use Rattle.std.proofs.Common.{◌≡◌, ℕ, zero, suc, ◌≤◌, List, [], ◌∷◌, ◌++◌, length, take, drop, refl, sym, ap, subst, ◌∙◌, arith}
 use Rattle.cyc_plain.specs.declared.instruction.Instruction.{Instruction}
 use Rattle.cyc_lower_proof.specs.inside.Lowering.{AreTurned}

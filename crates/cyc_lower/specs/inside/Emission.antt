@@ -87,7 +87,7 @@ right_of (operation.Test o e) = view_expression e
 right_of (operation.Pointer o e) = view_expression e
 right_of (operation.PointerPeek n o e) = view_expression e
 
--- Returns the code in which these jumps, which are taken if their conditions fail and had no target so far, have this target.
+-- Returns the code in which the given jumps, taken if their conditions fail and so far without a target, get this target.
 abbrev pub failed : List Pending → (target : ℕ) → List Instruction → List Instruction
 failed [] target code = code
 failed (j ∷ js) target code = failed js target (set code j.place (failing_jump j.condition target))
@@ -97,13 +97,13 @@ abbrev pub AreBefore : List Pending → (place : ℕ) → Type 0
 AreBefore [] place = Unit {0}
 AreBefore (j ∷ js) place = (j.place < place) × AreBefore js place
 
--- `Aims` concerns the code of a condition that begins at this position and was emitted with jump target 0. `Aims` says
--- that setting the targets of these jumps gives the code that is emitted with any other target.
+-- `Aims` concerns the code of a condition that begins at this position and was emitted with jump target 0. `Aims` says that setting the
+-- targets of the condition's recorded jumps to any position yields the code that is emitted with this position as target.
 abbrev pub Aims : List Pending → (code : ℕ → List Instruction) → (place : ℕ) → Type 0
 Aims early code place =
     (old rest : List Instruction) (target : ℕ) → length old ≡ place → failed early target (old ++ (code 0 ++ rest)) ≡ old ++ (code target ++ rest)
 
--- `IsTested` says that the condition of a branch is emitted, with the provisional target 0 for the jumps inside it, and that these
+-- `IsTested` says that the condition of a branch is emitted, with the provisional target 0 for its inner jumps, and that its inner
 -- jumps are returned.
 abbrev pub IsTested : Condition → (code : ℕ → List Instruction) → (old new : List Instruction) → Tested → Type 0
 IsTested last code old new tested =
@@ -190,8 +190,8 @@ module _ (starts : Starts) where
       record { place = p; condition = deciding_condition u c }
       ∷ early_jumps u os (other_condition o c t) (p + length (other_code u o c 0 p t)) t
 
-  -- `IsEarly` concerns the code of a chain of `&&` or `||`. `IsEarly` says that this code is emitted while the target of the
-  -- jumps taken when an operand decides the result is unknown.
+  -- `IsEarly` concerns the code of a chain of `&&` or `||`. `IsEarly` says that a chain of `&&` or `||` is emitted while the
+  -- target of its jumps, taken when an operand decides the result, is unknown.
   abbrev pub IsEarly : LogicalOperator → Expression → List Operation → (t : ℕ) → (old new : List Instruction) → Tested → Type 0
   IsEarly u a os t old new tested =
       (tested.last ≡ last_condition starts (operations_of os) (condition_of starts a t) t)

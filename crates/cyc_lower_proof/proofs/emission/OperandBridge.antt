@@ -65,8 +65,8 @@ module _ (code : List Instruction) (b : Numbering) (types : Types) (raised : Blo
   returned_by (Some (operands.Word n)) computed x slot p q end has stands = (refl, stands end has)
   returned_by None computed x slot p q end has stands = (refl, stands end has)
 
-  -- Either the right operand of an operator needs no code, or the operand's code begins at position `p` and a given property of
-  -- the left operand holds.
+  -- Either the right operand of an operator needs no code, or the operand's code begins at position `p` and the property `left`
+  -- of the left operand holds.
   pub right_by : (known : Option Operand) (left computed : Type 0) (x : List Instruction) (slot p q : ℕ) → left → p + length (code_unless known x) ≡ q → HasAt code p (code_unless known x)
       → (p + length x ≡ q → HasAt code p x → computed) → OperandBy code b types known (left × computed) slot (operand_or known slot) p q
   right_by (Some o) left computed x slot p q there end has stands = (refl, omega (arith, end))
@@ -299,7 +299,7 @@ module _ (code : List Instruction) (b : Numbering) (types : Types) (raised : Blo
   global_stands words first (operands.Slot n) p q end has = each_stands store_word words first n p q end has
   global_stands words first (operands.Word n) p q end (here, none) = (here, end)
 
-  -- The third of the four instructions that count a pointer's elements jumps past the last one.
+  -- Four instructions compute a pointer's number of elements; the third of them jumps past the fourth.
   pub count_stands : (o : Operand) (d p q : ℕ) → p + length (count_code o p d) ≡ q → HasAt code p (count_code o p d) → CountAt code b types o d p q
   count_stands (operands.Word n) d p q end (move, none) = (move, end)
   count_stands (operands.Slot n) d p q end (past, (subtract, (jump, (move, none)))) = (

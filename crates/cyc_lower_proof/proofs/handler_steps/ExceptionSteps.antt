@@ -302,7 +302,7 @@ module _ (source : Program) (pages calls : ℕ) where
     written t facts others =
         data_written source t a.function a.base w.objects e.locals k a.slots reported_slots later c.globals rest first 2 (omega (arith, first_is)) (λ n away. both_elsewhere a.slots first tag value n away) (facts, others)
 
-    -- A source step is matched by two instructions of the lowered code, followed by the instructions at the given code positions.
+    -- A source step is matched by two instructions of the lowered code, followed by the instructions at the code positions `places`.
     by_handler : (places : List CodePlace) → Inside source pages calls w resumed → plain.seen_of (plain.Running c) ≡ seen_in w
         → AllByRecursion (λ r. place_in source pages calls c ≢ r) places → AllByRecursion (λ r. place_in source pages calls thrown_to ≢ r) places → IsDistinct places
         → AllByRecursion (Contains (places_of (lower_program source))) places

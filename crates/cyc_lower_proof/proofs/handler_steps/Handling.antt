@@ -54,7 +54,8 @@ newest_open (plain.Caught ∷ handlers) P is = absurd is
 newest_open (plain.Open index first contents ∷ handlers) P is = (index, first, contents, handlers, refl, is)
 
 module _ (source : Program) where
-  -- The record of what a loop or function must close when it is left agrees with the exception handlers that are open inside it.
+  -- The exits `exits` record what must be closed when a loop or function is left. This record agrees with the exception handlers
+  -- that are open inside the loop or function.
   pub record_left : (g : ℕ) (exits : Exits) (p : ℕ) (frames : List Frame) (k : List Entry) → StatementStack source g exits p frames k
       → (exits.in_loop ≡ opened_by source true g k) × (exits.in_function ≡ opened_by source false g k)
   record_left g exits p frames (Rest items ∷ k) (q, at, stack) = record_left g exits q frames k stack
@@ -141,7 +142,8 @@ module _ (source : Program) where
   left_closed loop c handlers first (CloseLexical region ∷ k) is (marked, stand) = left_closed loop c handlers first k is stand
   left_closed loop c handlers first (entry ∷ k) is stand = left_closed loop c handlers first k is stand
 
-  -- If an exit has no saved region count to restore, then no lexical regions are open that the exit must close.
+  -- If an exit from a loop or call has no saved number of open lexical regions to restore, then no lexical
+  -- region is open that the exit must close.
   pub unmarked : (loop : Bool) (g : ℕ) (k : List Entry) → (opened_by source loop g k).mark ≡ None → scopes_in (left_by loop k) ≡ scopes_in k
   unmarked loop g [] none = refl
   unmarked true g (Loop condition body ∷ k) none = refl
@@ -155,7 +157,7 @@ module _ (source : Program) where
   unmarked loop g (Main ∷ k) none = refl
   unmarked loop g (entry ∷ k) none = unmarked loop g k none
 
-  -- If an exit has a saved region count, then at least one lexical region is open.
+  -- If an exit from a loop or call has a saved number of open lexical regions, then at least one lexical region is open.
   marked_some : (loop : Bool) (g : ℕ) (k : List Entry) (mark : ℕ) → (opened_by source loop g k).mark ≡ Some mark → 0 < scopes_in k
   marked_some loop g [] mark is = absurd (none-some mark is)
   marked_some true g (Loop condition body ∷ k) mark is = absurd (none-some mark is)
@@ -165,7 +167,7 @@ module _ (source : Program) where
   marked_some loop g (Main ∷ k) mark is = absurd (none-some mark is)
   marked_some loop g (entry ∷ k) mark is = marked_some loop g k mark is
 
-  -- If an exit has a saved region count, then the program may open lexical regions.
+  -- If an exit from a loop or call has a saved number of open lexical regions, then the program may open lexical regions.
   pub marked_reported : (loop : Bool) (g : ℕ) (k : List Entry) → MayBeOpen (scopes_of source) (scopes_in k) → (mark : ℕ) → (opened_by source loop g k).mark ≡ Some mark → HasScopes (scopes_of source)
   marked_reported loop g k may mark is = by (scopes_of source) may
     where
@@ -173,7 +175,7 @@ module _ (source : Program) where
       by None none = omega (arith, none, marked_some loop g k mark is)
       by (Some place) may = tt
 
-  -- The saved region count is the number of lexical regions that stay open after the exit.
+  -- For an exit from a loop or call, the saved number of open lexical regions is the number of those that stay open after the exit.
   pub marked_by : (loop : Bool) (g : ℕ) (slots : Words) (handlers : List plain.Handler) (frames : List Frame) (k : List Entry) (mark : ℕ) → (opened_by source loop g k).mark ≡ Some mark
       → HandlersStand source g slots handlers frames k → slots mark ≡ scopes_in (left_by loop k)
   marked_by loop g slots handlers frames [] mark is stand = absurd stand

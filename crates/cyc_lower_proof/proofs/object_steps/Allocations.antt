@@ -71,12 +71,12 @@ words_many : (vs : List Kinded) → length vs ≤ words_held vs
 words_many [] = omega arith
 words_many (v ∷ vs) = omega (arith, words_many vs, kind_positive v.kind)
 
--- The element of a list after its first n elements, here the kind after the kinds `done`.
+-- The element of a list of representation kinds (int, char, pointer, ..) that comes after the first n elements, which are the list `done`.
 there_is : (done rest : List Kind) (kind : Kind) → slice_get (done ++ kind ∷ rest) (length done) ≡ Some kind
 there_is [] rest kind = refl
 there_is (a ∷ done) rest kind = there_is done rest kind
 
--- The number of slots of a list of values is the number of slots of their kinds.
+-- A list of values takes as many slots as the list of their representation kinds (int, char, pointer, ..) says.
 slots_held : (vs : List Kinded) → slots_of_kinds (kinds_of (blanks_of vs)) ≡ words_held vs
 slots_held [] = refl
 slots_held (v ∷ vs) = omega (arith, slots_held vs)
@@ -89,7 +89,8 @@ kinds-append : (us vs : List Kinded) → kinds_of (blanks_of (us ++ vs)) ≡ kin
 kinds-append [] vs = refl
 kinds-append (u ∷ us) vs = ap (λ (ks : List Kind). u.kind ∷ ks) (kinds-append us vs)
 
--- Reversing a list of values, which has the last value first, yields their kinds in order.
+-- If a list has the last value first, then the reversed list has the representation kinds (int, char, pointer, ..) of the values in order,
+-- from the first value to the last.
 kinds_reversed : (v : Kinded) (vs : List Kinded) (ks : List Kind) → kinds_of (blanks_of (reverse (v ∷ vs))) ++ ks ≡ kinds_of (blanks_of (reverse vs)) ++ v.kind ∷ ks
 kinds_reversed v vs ks =
     ap (λ (us : List Kinded). kinds_of (blanks_of us) ++ ks) (reverse-append (v ∷ []) vs)

@@ -73,7 +73,8 @@ array_made (Found made) object count level wanted element k e w well = (made, re
 array_made Closed object count level wanted element k e w well = absurd (well refl)
 array_made Missing object count level wanted element k e w well = absurd (well refl)
 
--- A path of instructions that computes into a slot how many words n elements of a kind take.
+-- A path of instructions that computes into a slot how many words n array elements take, all of one
+-- representation kind (int, char, pointer, ..).
 record Sized (source : Program) (kind : Kind) (a : Configuration) (t r n : ℕ) : Type 0 where
   pub slots : Words
   pub links : List Link

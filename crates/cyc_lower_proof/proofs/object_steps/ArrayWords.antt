@@ -15,8 +15,8 @@ use Rattle.cyc_lower_proof.specs.inside.ObjectCode.{most_elements}
 use Rattle.cyc_lower_proof.proofs.place_steps.PlaceWords.{add_is, shifted_is, multiplied_is}
 use Rattle.cyc_lower_proof.proofs.pointer_steps.ElementWords.{scaled}
 
--- A number of array elements is within the limit for its kind exactly if the machine words of these
--- elements are within the limit for a block.
+-- For each representation kind (int, char, pointer, ..) of array elements: their number is within
+-- its limit exactly if the machine words of these elements are within the limit for a block.
 pub elements_few : (kind : Kind) (n : ℕ) → words_for (n * bytes_of_kind kind) ≤ MOST_BLOCK_WORDS → n ≤ most_elements (bytes_of_kind kind)
 elements_few kinds.Int n few = omega (arith, few)
 elements_few kinds.Char n few = omega (arith, few)

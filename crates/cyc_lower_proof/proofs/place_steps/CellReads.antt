@@ -1,4 +1,4 @@
--- This file is about the value stored in a cell at an address: the cell belongs to the heap store, to a global, or to a local of an
+-- This file is about the value stored in a cell at an address: the cell is a cell of the heap store, a global, or a local of an
 -- active call.
 use Rattle.std.proofs.Common.{◌≡◌, ℕ, ◌+◌, ◌*◌, ◌<◌, List, length, Option, None, Some, refl, sym, ap, subst, ◌∙◌, arith, false, inl, inr, ◌%◌, [], ◌∷◌}
 use Rattle.std.specs.Prelude.{slice_get, option_map}
@@ -43,7 +43,7 @@ use Rattle.cyc_lower_proof.proofs.place_steps.KindWords.{loaded_at, loaded_wide,
 use Rattle.cyc_lower_proof.specs.inside.ValueCode.{variable_bytes}
 use Rattle.cyc_types.specs.declared.typed.Kind.TheVariants as kinds
 
--- If the variable of an object is found, then its cell contains the value that the source reads.
+-- If the object of a variable is found in the heap state, then the object's only cell contains the value that the source run reads.
 pub held_there : (w : World) (object : ℕ) (at : Located) (kind : Kind) (v : Value) → cell_at w object 0 ≡ Found at → at.cell.kind ≡ kind → at.cell.content ≡ Some v
     → contents w.objects object ≡ Some (record { kind = kind; value = v })
 held_there w object at kind v found same has =
@@ -59,12 +59,13 @@ globals_long source number few =
 abbrev pub AreSame : (here : Option ℕ) → (words : ℕ) → (old new : Words) → Type 0
 AreSame here words old new = (slot j : ℕ) → here ≡ Some slot → j < words → new (slot + j) ≡ old (slot + j)
 
--- Says that the slot `here`, if it exists, is the first slot of a local of the running call with enough slots for this kind.
+-- Says that the slot `here`, if it exists, is the first slot of a local of the running call. This local has enough slots for
+-- a value of the representation kind `kind` (int, char, pointer, ..).
 abbrev pub IsOwn : Program → (g : ℕ) → Kind → (here : Option ℕ) → Type 0
 IsOwn source g kind here = (slot : ℕ) → here ≡ Some slot → (number : ℕ) × (slot_of (starts_at source g) number ≡ slot) × (number < length (types_at source g).locals) × HasRoom (types_at source g) number kind
 
 -- The words of the cell to which a pointer points are at the cell's address and represent the value stored in the cell. If the cell
--- belongs to a local of the running call, then the slots of this local still have these words.
+-- is a local of the running call, then the slots of this local still have these words.
 pub record IsRead (source : Program) (t : Tables) (c : Configuration) (address : ℕ) (kind : Kind) (content : Option Value) : Type 0 where
   pub word : ℕ → ℕ
   pub here : Option ℕ

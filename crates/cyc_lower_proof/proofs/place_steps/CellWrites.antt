@@ -107,7 +107,8 @@ module _ (t : Tables) (source : Program) where
 
 -- ---- a cell is written
 
--- If a value is stored in a cell without a fault, then the cell exists and has the kind of the value.
+-- If a value is stored in a cell without a fault, then the cell exists and has the representation
+-- kind (int, char, pointer, ..) of the value.
 pub cell_is_there : (a : Access Located) (number offset : ℕ) (v : Kinded) (focus : Focus) (k : List Entry) (e : Environment) (w : World) → IsWell (stored a number offset v focus k e w)
     → (at : Located) × (a ≡ Found at) × (at.cell.kind ≡ v.kind) × (stored a number offset v focus k e w ≡ Running focus k e (written w number offset at v.value))
 cell_is_there (Found at) number offset v focus k e w well =
@@ -121,7 +122,7 @@ cell_is_there Missing number offset v focus k e w well = absurd (well refl)
 abbrev pub with_parts : Configuration → StoreState → (globals slots : Words) → List Frame → Configuration
 with_parts c store globals slots frames = record c { store = store; globals = globals; active = record c.active { slots = slots }; frames = frames }
 
--- A cell is written with the word that represents a value. The cell belongs to the heap store, to a global, or to a local of an
+-- A cell is written with the word that represents a value. The cell is a cell of the heap store, a global, or a local of an
 -- active call. A write of the cell changes the heap store, the globals, or the slots of that call.
 module _ (source : Program) (pages calls : ℕ) (k : List Entry) (e : Environment) (w : World) (c : Configuration) (shared : SharedAt source pages calls k e w c)
     (names : AreNamed source e.locals (callers k) w c.active.function c.active.base c.frames c.store)

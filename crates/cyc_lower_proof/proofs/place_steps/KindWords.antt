@@ -21,12 +21,12 @@ use Rattle.cyc_memory_relation.proofs.Chars.{char-small, last-word, last-loaded,
 use Rattle.cyc_lower_proof.specs.inside.ValueCode.{load_of, store_of, variable_bytes}
 use Rattle.cyc_lower_proof.proofs.relation.contents.HeldValues.{IsWord}
 
--- The word that a load of a value of this kind yields, if the address is valid.
+-- The word that a load yields if the address is valid: one byte for a value of type char, and a machine word for any other value.
 abbrev pub loaded_at : Program → Kind → Configuration → (address : ℕ) → Option ℕ
 loaded_at program kinds.Char c address = option_map (λ (word : ℕ). byte_in word (address % 4)) (memory_at program c (word_of address))
 loaded_at program kind c address = memory_at program c address
 
--- The state after a store instruction for a value of this kind.
+-- The state after a store instruction, which stores one byte for a value of type char and a machine word for any other value.
 abbrev pub saved_at : Program → Kind → Configuration → (address word : ℕ) → State
 saved_at program kinds.Char c address word = saves_byte program c address (word % 256) (memory_at program c (word_of address))
 saved_at program kind c address word = saves program c address word (memory_at program c address)
@@ -61,7 +61,8 @@ saved_wide program kind c address word wide = refl
 
 -- ---- variables
 
--- Loading a word by the address of a variable and loading it by the address of the variable's first word yield the same word.
+-- A load through the address of a variable (for a char, the address of the last byte) yields the same word as a load through
+-- the address of the variable's first word.
 pub loaded_variable : (program : Program) (kind : Kind) (c : Configuration) (start j word : ℕ) → start % 4 ≡ 0 → j < words_of_kind kind → (kind ≡ kinds.Char → word < 256)
     → memory_at program c (start + 4 * j) ≡ Some word → loaded_at program kind c (start + variable_bytes kind + 4 * j) ≡ Some word
 loaded_variable program kinds.Char c start j word even below small there =
@@ -79,7 +80,8 @@ loaded_variable program kinds.Fat c start j word even below small there = ap (me
 loaded_variable program kinds.Handle c start j word even below small there = ap (memory_at program c) (plus_zero_plus start (4 * j)) ∙ there
 loaded_variable program kinds.Key c start j word even below small there = ap (memory_at program c) (plus_zero_plus start (4 * j)) ∙ there
 
--- Storing a word by the address of a variable has the effect of storing it by the address of the variable's first word.
+-- A store through the address of a variable (for a char, the address of the last byte) has the same effect as a store
+-- through the address of the variable's first word.
 pub saved_variable : (program : Program) (kind : Kind) (c : Configuration) (start word old : ℕ) → start % 4 ≡ 0 → (kind ≡ kinds.Char → (old < 256) × (word < 256))
     → memory_at program c start ≡ Some old → saved_at program kind c (start + variable_bytes kind) word ≡ saves program c start word (memory_at program c start)
 saved_variable program kinds.Char c start word old even small there =

@@ -63,7 +63,7 @@ module _ {t : Tables} where
       last : (w : ℕ) → w + 0 ≡ w
       last w = omega arith
 
-  -- The code computes the address of the j-th word of a cell of this kind.
+  -- The code computes the address of the j-th machine word of a cell, for a cell of any representation kind (int, char, pointer, ..).
   pub word_is : {o k w : ℕ} (p : Points t o k w) (kind : Kind) (j : ℕ) → slice_get p.kinds k ≡ Some kind → j < words_of_kind kind
       → add_of w (4 * j) ≡ w + 4 * j
   word_is {o} {k} {w} p kind j there below =
@@ -81,7 +81,8 @@ module _ {t : Tables} where
       below : w + before field p.kinds < 4294967296
       below = pointer-word (member-points p field inside)
 
-  -- The code computes the address of a field of an object whose cells have the kinds of these fields.
+  -- The code computes the address of a field of an object whose cells have the representation kinds
+  -- (int, char, pointer, ..) of a struct's fields.
   pub field_is : {o w : ℕ} (p : Points t o 0 w) (fields : List Kind) (field : ℕ) → p.kinds ≡ fields → field < length fields
       → Points t o field (add_of w (before field fields))
   field_is {o} {w} p fields field same inside =
@@ -90,7 +91,8 @@ module _ {t : Tables} where
 
   -- ---- elements
 
-  -- If an index is within bounds, then neither its number of bytes nor the sum of this number and the address overflows.
+  -- If the index of an access to an array is within bounds, then two computations do not overflow: the index times the
+  -- bytes of a cell, and the sum of this product and the array's address.
   element_below : {o start n w : ℕ} (i : ℕ) (part : IsPartOf t o start n w) → i < n → w + i * bytes_of_kind part.kind < 4294967296
   element_below i part below = pointer-word (thinned i part below)
 
@@ -170,7 +172,7 @@ three_written t v m w a b c is = Is-same t kinds.Fat v (λ j. if j == 0 then a e
     each (suc (suc zero)) below = when_equal (w + 4 * (0 + 2)) (w + 4 * 2) c (put (put m (w + 4 * 0) a) (w + 4 * 1) b (w + 4 * (0 + 2))) refl
     each (suc (suc (suc j))) below = absurd (omega (arith, below))
 
--- If three consecutive words represent a fat value, then the same words taken one by one represent it.
+-- If three consecutive words represent a fat pointer, then a sequence that is built from these three words represents it as well.
 pub three_words_of : (t : Tables) (v : Value) (words : ℕ → ℕ) (p : ℕ) → Is t kinds.Fat v words p
     → Is t kinds.Fat v (λ j. if j == 0 then words p else if j == 1 then words (p + 1) else words (p + 2)) 0
 three_words_of t v words p is = Is-same t kinds.Fat v words (λ j. if j == 0 then words p else if j == 1 then words (p + 1) else words (p + 2)) p 0 each is
@@ -184,15 +186,15 @@ three_words_of t v words p is = Is-same t kinds.Fat v words (λ j. if j == 0 the
 -- ---- cells that an access finds
 
 module _ {t : Tables} {w : World} {s : StoreState} (related : Related t w s) where
-  -- A cell has the kind that the table of objects records for it.
+  -- A cell has the representation kind (int, char, pointer, ..) that the table of objects records for it.
   pub cell_kind : {o k a : ℕ} (at : Located) (p : Points t o k a) → cell_at w o k ≡ Found at → slice_get p.kinds k ≡ Some at.cell.kind
   cell_kind {o} {k} at p found =
       let (there, cell) = cell_found w o k at found in
       ap (λ ks. slice_get ks k) (related.shapes o p.address p.kinds at.object there p.row)
       ∙ slice_get-map (λ (z : Cell). z.kind) at.object.cells k at.cell cell
 
-  -- The fields of the object have the kinds that the source semantics tests, so the code computes the address of a field without
-  -- looking at the object.
+  -- The fields of the object have the representation kinds (int, char, pointer, ..) that the source semantics tests, so the code
+  -- computes the address of a field without looking at the object.
   pub field_there : {o a : ℕ} (p : Points t o 0 a) (x : Object) (fields : List Kind) (field : ℕ) → slice_get w.objects o ≡ Some x
       → kinds_of x.cells ≡ fields → field < length fields → Points t o field (add_of a (before field fields))
   field_there {o} p x fields field there same inside =

@@ -1,5 +1,5 @@
--- This file accesses words by their addresses: the words of cells are in the address range of the heap store, and other words
--- belong to globals. Load and store instructions through these addresses access the heap store and the globals.
+-- This file accesses words by their addresses: the words of cells of objects are in the address range of the heap store, and other words
+-- are words of globals. Load and store instructions through these addresses access the heap store and the globals.
 use Rattle.std.proofs.Common.{◌≡◌, ℕ, ◌+◌, ◌*◌, ◌/◌, ◌<◌, length, Option, None, Some, ap, subst, ◌∙◌, arith, false, ◌%◌}
 use Rattle.std.specs.Prelude.{slice_get, nat_lt}
 use Rattle.std.proofs.lemmas.Bool.{lt-ltb}

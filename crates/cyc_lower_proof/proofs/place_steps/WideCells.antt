@@ -110,7 +110,7 @@ module _ (source : Program) (pages calls : ℕ) (k : List Entry) (e : Environmen
   abbrev pub Goes : (s others : Parts) → (more from : ℕ) → Type 0
   Goes s others more from = (i : ℕ) (choice : Choice) → performed (lower_program source) choice (stage c s i) (instructions.Store (operands.Slot a) more (operands.Slot from)) ≡ plain.Running (stage c others (i + 1))
 
-  -- The written cell belongs to the heap store, to a global or to a local. Writing the cell changes the heap store, the
+  -- The written cell is a cell of the heap store, a global or a local. Writing the cell changes the heap store, the
   -- globals, or the slots of a call.
   pub record IsSaved : Type 0 where
     pub one : Parts

@@ -71,7 +71,8 @@ abbrev some_or : (kind : Kind) → Option Kind → Kind
 some_or kind None = kind
 some_or kind (Some other) = other
 
--- Each cell of the part of an object to which a fat pointer points has the size of the kind that the typed tree gives.
+-- Each cell of the part of an object to which a fat pointer points has the size of a value of the representation kind
+-- (int, char, pointer, ..) that the typed tree names.
 module _ {t : Tables} {w : World} {s : StoreState} (related : objects.Related t w s) where
   cell_of_kind : (kind : Kind) (offset : ℕ) (x : Option Object) → is_target (Some kind) offset (cell_of x offset) ≡ true → (y : Object) × (cell : Cell) × (x ≡ Some y) × (slice_get y.cells offset ≡ Some cell) × (cell.kind ≡ kind)
   cell_of_kind kind offset None leads = absurd (let f : false ≡ true = leads in cc)

@@ -209,7 +209,8 @@ module _ (source : Program) (pages calls : ℕ) where
     leads_there : (x : Value) → IsWell (step source (Running (Given (given x)) waiting e w)) → leads_to w target (followed x) ≡ true
     leads_there x well = (and_parts (is_kind i kinds.Fat) (leads_to w target (followed x)) (is_fitting (tests x) (arrives (followed x) k e w) w well)).1
 
-    -- If no cell size is given for an access through a fat pointer, then the code multiplies no index by a size.
+    -- If an access through a fat pointer has no cell size, as it reaches the first cell of its target, then the
+    -- code multiplies no index by a size.
     inside_first : (here : ReachedAt (code_of source c.active.function) (bounds_at source c.active.function) (types_at source c.active.function) None n m free c.active.next q)
         → InsideAt (code_of source c.active.function) (bounds_at source c.active.function) (types_at source c.active.function) n m c.active.next here.1
     inside_first here = subst (λ i. InsideAt (code_of source c.active.function) (bounds_at source c.active.function) (types_at source c.active.function) n m i here.1) (sym here.2) here.3

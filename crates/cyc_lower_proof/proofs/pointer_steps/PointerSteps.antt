@@ -61,7 +61,8 @@ kind_of_one kinds.Nullable thin = refl
 kind_of_one kinds.NonNull thin = refl
 kind_of_one kind thin = absurd (let f : false ≡ true = thin in cc)
 
--- A left operand of a kind that the operator accepts has as many words as the code expects.
+-- If the operator accepts the representation kind (int, char, pointer, ..) of its left operand, then this operand has as many words as the
+-- code expects.
 pub left_words : (u : PointerOperator) (kind : Kind) → takes_kind u kind ≡ true → words_of_kind kind ≡ words_of_kind (left_kind u)
 left_words pointers.AddFat kind takes = ap words_of_kind (same_kind kind kinds.Fat takes)
 left_words pointers.SubtractFat kind takes = ap words_of_kind (same_kind kind kinds.Fat takes)

@@ -43,7 +43,8 @@ abbrev pub closed_down : Configuration → services.Choice → (many q : ℕ) �
 closed_down c choice many q = record (at c q) { store = served c.store (CloseTo many) choice }
 
 module _ (source : Program) (pages calls : ℕ) where
-  -- An instruction other than the one that closes regions down to this slot's count is at a different code position.
+  -- One instruction closes lexical regions until as many are open as the word of a slot says. Any other instruction
+  -- is at a different code position.
   pub closing_apart : (c : Configuration) (slot : ℕ) → At (code_of source c.active.function) c.active.next (instructions.Ask (requests.CloseTo (operands.Slot slot)))
       → (place : CodePlace) (i : Instruction) → At (code_of source place.function) place.index i → (i ≢ instructions.Ask (requests.CloseTo (operands.Slot slot)))
       → AllByRecursion (λ q. place ≢ q) (place_in source pages calls c ∷ [])

@@ -224,8 +224,8 @@ module _ (program : PlainProgram) (r : Routine) (b : Numbering) (called : (n : �
               ((omega (arith, few, place), tt), pointer_copied program r b types locals levels globals called results following d t room (omega (arith, few, place))),
         ))
 
-    -- The code of the memory access of a value with this number of words refers only to slots, functions, globals and code positions that
-    -- exist.
+    -- The code of a memory access that reads or writes a value of at least one machine word refers only to slots, functions, globals and
+    -- code positions that exist.
     pub place_in : (types : Types) (locals : (n : ℕ) → n < b.locals → slot_of (starts_of types) n + words_in types.locals n ≤ r.slots) (levels : (l slot : ℕ) → slice_get types.counters l ≡ Some slot → slot < r.slots) (globals : AreGlobals program types.globals) (following : HasEnd r types) → (x : Dereference) (own p t : ℕ) → FitsCell b types x → 1 ≤ own → t + dereference_need x own ≤ r.slots → p + length (place_code (starts_of types) x p t) < length r.code → AreIn program r b types locals levels globals called results following (place_code (starts_of types) x p t)
     place_in types locals levels globals following (Target k a ty) own p t (pointer, kind_is, wide, numbered) some few short =
         let slot = value_slot (starts_of types) a t in

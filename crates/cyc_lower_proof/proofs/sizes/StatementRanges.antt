@@ -87,8 +87,8 @@ module _ (program : PlainProgram) (r : Routine) (b : Numbering) (types : Types) 
 
   -- ---- exits
 
-  -- Given the first slot of a handler record or of a saved region count: holds if all slots of this record or count exist in the
-  -- function. If no slot is given, it holds as well.
+  -- Says that all slots of a handler record, or of a saved number of open lexical regions, exist in the function; the argument
+  -- is its first slot. If there is no such record or number, then it holds as well.
   abbrev IsRecord : Option ℕ → Type 0
   IsRecord None = Unit {0}
   IsRecord (Some first) = first + RECORD_WORDS ≤ r.slots

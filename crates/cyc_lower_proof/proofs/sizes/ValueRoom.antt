@@ -27,7 +27,7 @@ use Rattle.cyc_lower_proof.proofs.relation.code.Fitting.{Fits, FitsConverted, Fi
 use Rattle.cyc_lower_proof.proofs.sizes.RangeLemmas.{operand_positive, result_least}
 
 module _ (r : Routine) (b : Numbering) (types : Types) (locals : (n : ℕ) → n < b.locals → slot_of (starts_of types) n + words_in types.locals n ≤ r.slots) (levels : (l slot : ℕ) → slice_get types.counters l ≡ Some slot → slot < r.slots) where
-  -- the kind of the result of an expression
+  -- the representation kind (int, char, pointer, ..) of the result of an expression
   abbrev pub kind_at : Expression → Kind
   kind_at a = given b.functions a
 
@@ -43,7 +43,7 @@ module _ (r : Routine) (b : Numbering) (types : Types) (locals : (n : ℕ) → n
   pub assigned_kind : (l : Lvalue) (c : Converted) (ty : ValueType) → kind_at (Assign l c ty) ≡ kind_passed c
   assigned_kind l (Convert from to a) ty = refl
 
-  -- The result of a pointer operator or of a chain has at most as many words as the left operand or as the operators need.
+  -- The result of a pointer operator or of a chain of operators has at most as many words as the left operand or as the operators need.
   pub operator_few : (o : PointerOperator) → words_of_kind (operator_kind o) ≤ words_of_kind (left_kind o)
   operator_few pointers.AddFat = omega arith
   operator_few pointers.SubtractFat = omega arith

@@ -11,7 +11,7 @@ use Rattle.cyc_lower_proof.specs.inside.Slots.{begins_word}
 use Rattle.cyc_lower_proof.specs.inside.ValueCode.{variable_bytes, all_passed, kinds_passed}
 use Rattle.cyc_lower_proof.specs.inside.ObjectCode.{slots_of_kinds}
 
--- A variable of a kind ends where its last word ends.
+-- For every representation kind (int, char, pointer, ..), the value of a variable ends at the last byte of the variable's last word.
 pub kind_bytes : (kind : Kind) → variable_bytes kind + bytes_of_kind kind ≡ 4 * words_of_kind kind
 kind_bytes kinds.Int = refl
 kind_bytes kinds.Char = refl

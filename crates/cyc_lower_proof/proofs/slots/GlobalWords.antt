@@ -21,7 +21,8 @@ StartsLeft gs i first starts =
 
 -- ---- the initial words
 
--- Says that the words computed so far, extended by the zeros that are left, are the words of the earlier globals and of this global.
+-- Says that the words computed so far, extended by the zeros that are still to be added, are the words of the earlier globals and of
+-- the global `g`.
 abbrev pub ZerosLeft : (old words : List ℕ) → (g : GlobalVariable) → (left : ℕ) → Type 0
 ZerosLeft old words g left = words ++ replicate (left - 1) 0 ≡ old ++ lower_global g
 

@@ -1,4 +1,4 @@
--- This file is about the kinds of the results of expressions and the words of locals.
+-- This file is about the representation kinds (int, char, pointer, ..) of the results of expressions and the words of locals.
 use Rattle.std.proofs.Common.{◌≡◌, ◌⊎◌, ℕ, zero, suc, ◌+◌, ◌≤◌, ◌<◌, true, false, List, [], ◌∷◌, length, Option, None, Some, slice_get, refl, sym, ap, ◌∙◌, arith, inl, inr, Bool}
 use Rattle.std.specs.Prelude.{◌==◌, max, not, ◌&&◌, if◌then◌else◌}
 use Rattle.std.proofs.lemmas.Bool.{eqb-true, eqb-false, and_parts, cases_Bool}
@@ -40,7 +40,7 @@ kind_few kinds.Fat = omega arith
 kind_few kinds.Handle = omega arith
 kind_few kinds.Key = omega arith
 
--- A kind of more than one word is the kind of fat pointers.
+-- A representation kind (int, char, pointer, ..) whose values have more than one word is the kind of fat pointers.
 pub wide_kind : (kind : Kind) → (words_of_kind kind == 1) ≡ false → kind ≡ kinds.Fat
 wide_kind kinds.Fat wide = refl
 wide_kind kinds.Int wide = absurd (let f : true ≡ false = wide in cc)
@@ -96,21 +96,22 @@ changes_words from to changes = elim (cases_Bool (are_as_wide from to)) [
   | inr narrow ↦ inr narrow
 ]
 
--- A conversion to a kind other than char that does not keep the words changes their number.
+-- If a conversion to a type other than char changes the words of the value, then it changes the number of these words.
 pub changes_wide : (from to : Kind) → is_kind to kinds.Char ≡ false → keeps_words from to ≡ false → are_as_wide from to ≡ false
 changes_wide from to plain changes = elim (changes_words from to changes) [
   | inl masked ↦ absurd (let f : true ≡ false = sym (ap (λ (k : Kind). is_kind k kinds.Char) masked.1) ∙ plain in cc)
   | inr narrow ↦ narrow
 ]
 
--- If a conversion to another kind does not keep the words, then its target is a pointer or a char.
+-- If a conversion to another representation kind (int, char, pointer, ..) changes the words of the
+-- value, then its target is a pointer or a char.
 pub changes : (from to : Kind) → is_converted from to ≡ true → keeps_words from to ≡ false → (to ≡ kinds.Char) ⊎ (is_pointer to ≡ true)
 changes from to known changed = elim (changes_words from to changed) [
   | inl masked ↦ inl masked.1
   | inr narrow ↦ inr (sym (ap (λ (b : Bool). if b then true else is_pointer to) narrow) ∙ known)
 ]
 
--- A value of a type has as many words as its kind.
+-- A value of a type has as many words as the representation kind of the type (int, char, pointer, ..) says.
 pub type_words : (t : Ty) → words_of_kind (kind_of t) ≡ words_of t
 type_words types.Int = refl
 type_words types.Char = refl
@@ -152,7 +153,7 @@ same_kinds (a ∷ these) (b ∷ those) are =
 
 -- ---- the results of expressions
 
--- The kind of the result of a function.
+-- The representation kind (int, char, pointer, ..) of the result of a function.
 abbrev pub kind_of_result : Option Ty → Kind
 kind_of_result None = kinds.Int
 kind_of_result (Some t) = kind_of t
@@ -161,7 +162,7 @@ abbrev pub result_kind : Option Signature → Kind
 result_kind None = kinds.Int
 result_kind (Some s) = kind_of_result s.result
 
--- The kind of the result of an operator chain, given the kind of its left operand.
+-- The representation kind (int, char, pointer, ..) of the result of a chain of operators, given that of its left operand.
 abbrev pub chain_kind : Kind → Operations → Kind
 chain_kind kind NoOperations = kind
 chain_kind kind (ThenCompute o b os) = chain_kind kinds.Int os
@@ -169,7 +170,7 @@ chain_kind kind (ThenTest o b os) = chain_kind kinds.Int os
 chain_kind kind (ThenPointer o b os) = chain_kind (operator_kind o) os
 chain_kind kind (ThenPointerPeek n o b os) = chain_kind (operator_kind o) os
 
--- the kind of the pointer to a new object
+-- the representation kind of the pointer to a new object (non-null pointer or fat pointer)
 abbrev pub made_kind : Initial → Kind
 made_kind (Array p level n kind a) = kinds.Fat
 made_kind i = kinds.NonNull
@@ -209,13 +210,13 @@ words_in (t ∷ ts) (suc n) = words_in ts n
 abbrev pub HasRoom : Types → ℕ → Kind → Type 0
 HasRoom types n kind = words_of_kind kind ≤ words_in types.locals n
 
--- The kind of the local or global with index n in a list of types.
+-- The representation kind (int, char, pointer, ..) of the local or global with index n in a list of types.
 abbrev pub kind_in : List Ty → ℕ → Kind
 kind_in [] n = kinds.Int
 kind_in (t ∷ ts) zero = kind_of t
 kind_in (t ∷ ts) (suc n) = kind_in ts n
 
--- Holds if the local with this index has this kind and enough words for a value of the kind.
+-- Holds if a local has the representation kind `kind` (int, char, pointer, ..) and enough words for a value of this kind.
 abbrev pub HasLocal : Types → ℕ → Kind → Type 0
 HasLocal types n kind = HasRoom types n kind × (kind_in types.locals n ≡ kind)
 
@@ -223,7 +224,7 @@ HasLocal types n kind = HasRoom types n kind × (kind_in types.locals n ≡ kind
 abbrev pub HasGlobal : Types → ℕ → Kind → Type 0
 HasGlobal types n kind = words_of_kind kind ≤ words_in types.globals n
 
--- Holds if the local or global with this index has the kind to which a pointer of type `pointer` points.
+-- Holds if a local or global has the representation kind (int, char, pointer, ..) of the target of pointers of type `pointer`.
 abbrev pub HasVariable : List Ty → ℕ → (pointer : Ty) → Type 0
 HasVariable ts n pointer = (t : Ty) × (slice_get ts n ≡ Some t) × (kind_after pointer ≡ kind_of t)
 
@@ -240,6 +241,6 @@ pub unary_one_word : (o : UnaryOperator) → words_of_kind (unary_kind o) ≡ 1
 unary_one_word unary.LowByte = refl
 unary_one_word o = refl
 
--- A value is passed with as many words as the kind to which it is converted.
+-- A value is passed with as many words as the representation kind (int, char, pointer, ..) to which it is converted.
 pub passed_is : (c : Converted) → passed_words c ≡ words_of_kind (kind_passed c)
 passed_is (Convert from to a) = refl

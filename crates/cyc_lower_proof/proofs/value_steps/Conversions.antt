@@ -91,13 +91,13 @@ module _ (source : Program) (pages calls : ℕ) where
       (shared, in_operand o facts (kept_in shared.tables i to v c.active.slots o wide gives is) (kept_holds _ _ _ k holds) (subst (λ r. ValueStack source c.active.function e.locals to o r c.frames k) (sym end) stack))
       (omega arith)
 
-  -- The kind from which a conversion converts a value is the kind that the value has.
+  -- The representation kind (int, char, pointer, ..) from which a conversion converts a value is the kind that the value has.
   converts_kind : (from to : Kind) (target : Option Kind) (v : Kinded) (k : List Entry) (e : Environment) (w : World) → IsWell (step source (Running (Given v) (Needs (ConvertTo from to target) ∷ k) e w))
       → step source (Running (Given v) (Needs (ConvertTo from to target) ∷ k) e w) ≡ computed to (conversion to v.value) k e w
   converts_kind from to target v k e w well =
       ap (λ (b : Bool). if b then computed to (conversion to v.value) k e w else wrong w) (is_fitting (is_kind v.kind from && leads_to w target (followed v.value)) (computed to (conversion to v.value) k e w) w well)
 
-  -- If a conversion is not a fault, then its value has the kind from which it is converted.
+  -- If a conversion is not a fault, then its value has the representation kind (int, char, pointer, ..) from which the conversion converts.
   converted_from : (from to : Kind) (target : Option Kind) (v : Kinded) (k : List Entry) (e : Environment) (w : World) → IsWell (step source (Running (Given v) (Needs (ConvertTo from to target) ∷ k) e w)) → v.kind ≡ from
   converted_from from to target v k e w well =
       same_kind v.kind from
@@ -223,8 +223,8 @@ module _ (source : Program) (pages calls : ℕ) where
   converted_ahead t from kinds.Key i (Key region) words n k e w well quiet whole wide is = (refl, kept_at t i kinds.Key (Key region) words n wide refl is)
   converted_ahead t from to i v words n k e w well quiet whole wide is = absurd (well refl)
 
-  -- If a conversion happens in the slots of a local, then the value has the kind from which it is converted. The conversion keeps the
-  -- value's number of words.
+  -- If a conversion happens in the slots of a local, then the value has the representation kind (int, char, pointer, ..) from which
+  -- the conversion converts. The conversion keeps the value's number of words.
   pub converts_ahead : (t : Tables) (from to : Kind) (target : Option Kind) (v : Kinded) (n : ℕ) (k : List Entry) (e : Environment) (w : World) (c : Configuration)
       → IsWell (step source (Running (Given v) (Needs (ConvertTo from to target) ∷ k) e w)) → converts_there from to ≡ true → masks from to ≡ false → Is t v.kind v.value c.active.slots n
       → (step source (Running (Given v) (Needs (ConvertTo from to target) ∷ k) e w) ≡ Running (Given (of_kind to v.value)) k e w) × Is t to v.value c.active.slots n

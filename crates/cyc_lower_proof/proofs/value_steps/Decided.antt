@@ -40,7 +40,7 @@ module _ (source : Program) (pages calls : ℕ) where
   forked c failing l r k f h true (inr (here, following)) reported = (opposite failing, l, r, h, here, ap (λ (b : Bool). if b then h else c.active.next + 1) (opposed failing _ _ ∙ ap not reported) ∙ following)
   forked c failing l r k f h false (inr (here, following)) reported = (opposite failing, l, r, h, here, ap (λ (b : Bool). if b then h else c.active.next + 1) (opposed failing _ _ ∙ ap not reported))
 
-  -- If it is known that a comparison fails or that it holds, then its value, 0 or 1, is given to the next continuation frame.
+  -- If it is decided whether a comparison fails or holds, then its value, 0 or 1, is passed to the next continuation frame.
   pub given_compared : (t : Tables) (v : Kinded) (failing : Comparison) (l r : Operand) (k : List Entry) (e : Environment) (w : World) (c : Configuration) (fails : Bool)
       → is_zero v.value ≡ Some fails → compares failing (operand_word c.active.slots l) (operand_word c.active.slots r) ≡ fails
       → DataIn source t c.active.slots k e w c → Holds t c.active.slots (floor source c.active.function k) (held k)

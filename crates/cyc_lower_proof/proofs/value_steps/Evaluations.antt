@@ -165,7 +165,7 @@ module _ (source : Program) (pages calls : ℕ) where
   tested_value g locals kind o p frames (Needs (Test a s) ∷ k) low stack = stack
   tested_value g locals kind o p frames (entry ∷ k) low (f, h, fork, first, second) = absurd first
 
-  -- The code after two compared operands, of which the second is the constant 0 without code.
+  -- The code after two compared operands; the second operand is the constant 0, which needs no code.
   alone : (g : ℕ) (failing : Comparison) (l r : Operand) (p q : ℕ) (frames : List Frame) (k : List Entry) → r ≡ operands.Word 0 → p ≡ q
       → ConditionStack source g failing l r q frames k → ConditionStack source g failing l (operands.Word 0) p frames k
   alone g failing l r p q frames k is end stack =

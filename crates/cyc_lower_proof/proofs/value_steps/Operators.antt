@@ -68,7 +68,8 @@ use Rattle.cyc_lower_proof.proofs.value_steps.Conversions.{not_taken, guard_fail
 module _ (source : Program) (pages calls : ℕ) where
   -- ---- operators
 
-  -- Says that a word has been moved to a slot, and that the slot now represents a value of a kind.
+  -- Says that a word has been moved to a slot, and that the slot now represents a value of representation kind `kind` (int, char, pointer,
+  -- ..).
   abbrev IsLanded : Tables → Kind → (d : ℕ) → List Entry → Environment → World → Configuration → Type 0
   IsLanded t kind d k e w c =
       (v : Value) (x : ℕ) → Is t kind v (put c.active.slots d x) d → Related source pages calls (Given (of_kind kind v)) k e w (advanced (with_slots c (put c.active.slots d x)))
@@ -134,7 +135,7 @@ module _ (source : Program) (pages calls : ℕ) where
   IsComputed u a b d q k e w c =
       (m x : ℕ) → m + 1 ≡ q → x ≡ binary_word u a b → Related source pages calls (Given (int_of (binary_word u a b))) k e w (advanced (with_slots (at c m) (put c.active.slots d x)))
 
-  -- The step of the division instruction, applied to operands with these words.
+  -- The step of the division instruction, applied to operands that hold the words a and b.
   quotient : (u : Operator) (a b : ℕ) (l r : Operand) (d : ℕ) (k : List Entry) (e : Environment) (w : World) (c : Configuration) (q : ℕ)
       → ((x : ℕ) → plain_operators.has_no_result (binary_operator u) x ≡ (x == 0)) → ((x y : ℕ) → plain_operators.binary_result (binary_operator u) x y ≡ binary_word u x y)
       → (b == 0) ≡ false → operand_word c.active.slots l ≡ a → operand_word c.active.slots r ≡ b → c.active.next + 1 ≡ q → IsComputed u a b d q k e w c
@@ -226,8 +227,8 @@ module _ (source : Program) (pages calls : ℕ) where
   beside_same t locals g o p slots other frames (Needs (Operate u) ∷ k) same (at, beside) = (at, beside_same t locals g (operands.Slot (top source g k)) (p + 1) slots other frames k same beside)
   beside_same t locals g o p slots other frames k same beside = absurd beside
 
-  -- The result of an operator becomes a left operand, or the value of a chain. The left operand of the enclosing chain stays in
-  -- its slot or constant.
+  -- The result of an operator becomes the left operand of the next operator, or the value of a chain of operators. The left
+  -- operand of the enclosing chain of operators stays in its slot or constant.
   pub stays_beside : (v : Kinded) (x : ℕ) (k : List Entry) (e : Environment) (w : World) (c : Configuration) (q p : ℕ) (shared : SharedAt source pages calls k e w c) → DataIn source shared.tables c.active.slots k e w c → p ≡ q
       → Is shared.tables v.kind v.value (put c.active.slots (top source c.active.function k) x) (top source c.active.function k)
       → BesideAt source shared.tables e.locals c.active.function (operands.Slot (top source c.active.function k)) q c.active.slots c.frames k
@@ -335,7 +336,7 @@ module _ (source : Program) (pages calls : ℕ) where
       opposite true same = ap (λ x. truth (not x)) (sym same)
       opposite false same = ap (λ x. truth (not x)) (sym same)
 
-  -- The code of a test by `&&` or `||` is at its position, for both outcomes of the left operand.
+  -- The step of a test by `&&` or `||` after its left operand has been evaluated, for both outcomes of the left operand.
   tests : (u : LogicalOperator) (b : Expression) (os : Operations) (v : Kinded) (f : Bool) (k : List Entry) (e : Environment) (w : World) (c : Configuration) (d q : ℕ)
       → IsWell (step source (Running (Given v) (Needs (Chain (ThenTest u b os)) ∷ k) e w))
       → (c.active.slots (top source c.active.function k) == 0) ≡ f → Stands source pages calls v (operands.Slot (top source c.active.function k)) k e w c

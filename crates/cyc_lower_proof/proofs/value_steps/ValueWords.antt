@@ -36,7 +36,7 @@ use Rattle.cyc_lower_proof.proofs.relation.contents.Data.{in_words, IsWord-is, p
 use Rattle.cyc_lower_proof.proofs.relation.simulation.Accesses.{IsWell}
 use Rattle.cyc_words.proofs.Integers.{not_int_le}
 
--- A value together with its kind.
+-- A value together with its representation kind (int, char, pointer, ..).
 abbrev pub of_kind : Kind → Value → Kinded
 of_kind kind v = record { kind = kind; value = v }
 
@@ -127,7 +127,7 @@ module _ (t : Tables) where
   key_at kinds.Key region words p is = is
   key_at kind region words p is = absurd is
 
-  -- A value in one word does not have a kind of three words.
+  -- A value in one word does not have a representation kind (int, char, pointer, ..) whose values have three words.
   no_fat : (kind : Kind) (v : Value) (w : ℕ) → words_of_kind kind ≡ 3 → IsWord t kind v w → ⊥
   no_fat kinds.Fat v w wide is = is
   no_fat kinds.Int v w wide is = omega (arith, wide)

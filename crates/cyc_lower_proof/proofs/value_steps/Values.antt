@@ -106,7 +106,7 @@ module _ (source : Program) (pages calls : ℕ) where
       ap (λ (b : Bool). if b then made_it else wrong w) (is_fitting (is_kind v.kind kind) made_it w well) in
       does ∙ is_declared (region_at w e.home) Proceeding n kind (Some v.value) (Rest js ∷ k) e w (subst IsWell does well)
 
-  -- A local that is declared has the kind of its initial value.
+  -- A local that is declared has the representation kind (int, char, pointer, ..) of its initial value.
   local_kind : (n : ℕ) (kind : Kind) (js : Items) (v : Kinded) (k : List Entry) (e : Environment) (w : World) → IsWell (step source (Running (Given v) (Needs (Initialise n kind js) ∷ k) e w)) → v.kind ≡ kind
   local_kind n kind js v k e w well =
       same_kind v.kind kind (is_fitting (is_kind v.kind kind) (declared (region_at w e.home) Proceeding n kind (Some v.value) (Rest js ∷ k) e w) w well)

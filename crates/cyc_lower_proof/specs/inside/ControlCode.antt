@@ -106,8 +106,8 @@ deciding_condition logical.OrElse c = negated_condition c
 abbrev pub deciding_jump : LogicalOperator → Condition → (target : ℕ) → Instruction
 deciding_jump u c target = failing_jump (deciding_condition u c) target
 
--- Tells if two logical operators are equal. The next definition tells if all operators of an operator chain are one given
--- logical operator. The definition after that also requires that the chain has at least one operator.
+-- Tells if two logical operators are equal. The next definition tells if all operators of a chain of operators are the
+-- logical operator `u`. The definition after that also requires that the chain of operators has at least one operator.
 abbrev pub is_same : (u o : LogicalOperator) → Bool
 is_same logical.AndThen logical.AndThen = true
 is_same logical.OrElse logical.OrElse = true
@@ -189,9 +189,9 @@ abbrev pub looped_code : (guarded : Bool) → (condition body : ℕ → List Ins
 looped_code guarded condition body jump p =
     entered_code guarded condition (body (p + entry_length guarded (condition p))) jump p (p + entry_length guarded (condition p))
 
--- The code at position p of a loop with a small condition and no `break`. If the first condition fails, it jumps to the loop's end, so
--- execution continues into the body if it holds. At the end of the loop is a jump to the next instruction, which produces no machine
--- code; a `break` would go to this jump.
+-- The code at position p of a loop that has a small condition and no `break`. The condition before the body jumps to the loop's end if
+-- it fails; if it holds, execution continues into the body. At the end of the loop is a jump to the next instruction, which produces
+-- no machine code; a `break` would go to this jump.
 abbrev pub through_end : (front body condition : List Instruction) → (p : ℕ) → ℕ
 through_end front body condition p = p + length front + 1 + length body + length condition + 1
 

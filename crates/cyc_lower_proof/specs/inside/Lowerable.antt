@@ -12,7 +12,7 @@ use Rattle.cyc_types.specs.Texts.{stands_alone}
 use Rattle.cyc_meaning.specs.Values.{is_thin, is_kind}
 use Rattle.cyc_lower_proof.specs.inside.ValueCode.{are_as_wide, all_passed}
 
--- Holds for the kinds of pointers.
+-- Holds for the representation kinds of pointers, thin or fat.
 abbrev pub is_pointer : Kind → Bool
 is_pointer kind = if is_thin kind then true else is_kind kind kinds.Fat
 

@@ -23,9 +23,9 @@ use Rattle.cyc_plain.specs.inside.Memory.{IsBelow, slots_end}
 
 -- ---- the behavior of the plain program
 
--- Each run of the plain program follows a run of the source with these limits and this input, if no run of the source fails. The plain run
--- begins with the given heap store, and the slots of `main` are at address `base`. The plain steps that match one source step visit each
--- code position at most once.
+-- Each run of the plain program follows a run of the source with the same limits (of pages and calls) and the same input, if no run of the
+-- source fails. The plain run begins with the heap store `store`, and the slots of `main` are at address `base`. The plain steps that
+-- match one source step visit each code position at most once.
 abbrev pub FollowsSource : Program → PlainProgram → (pages calls base : ℕ) → StoreState → (input : List ℕ) → Type 0
 FollowsSource source lowered pages calls base store input =
     NeverFails (source_machine source pages calls) (start source input)
@@ -62,6 +62,6 @@ pub record CanBeLowered (source : Program) : Type 0 where
   pub of_words : IsOfWordsProgram source
   pub few_globals : words_of_all (global_types source.globals) ≤ MOST_GLOBALS
 
--- Says that a program is the given one and has at most `max_functions` functions.
+-- Says that `program` equals the program `given` and has at most `max_functions` functions.
 abbrev pub IsAccepted : (given program : Program) → Type 0
 IsAccepted given program = (program ≡ given) × (length program.functions ≤ max_functions)

@@ -3,7 +3,8 @@
 -- that the expression reads. All other writes of an expression's code go to the slots from `t` on. Integer constants and locals are used
 -- as operands without code that moves them.
 --
--- A value occupies as many consecutive slots as its kind has words, and a global occupies as many consecutive words.
+-- A value occupies as many consecutive slots as its representation kind (int, char, pointer, ..) has words, and a
+-- global occupies as many consecutive words.
 use Rattle.std.specs.Prelude.{◌≡◌, ◌<◌, ◌≤◌, ℕ, zero, suc, ◌+◌, Bool, false, List, [], ◌∷◌, ◌++◌, length, map, replicate, ◌-◌, Option, None, Some, true, ◌||◌, ◌&&◌, is_some, if◌then◌else◌, max, take, not}
 use Rattle.std.specs.List.{list_any}
 use Rattle.cyc_words.specs.declared.span.Span.{Span}
@@ -112,9 +113,9 @@ module _ (starts : Starts) where
   tests_code u a os following p t = condition_code a p t ++ others_code u os (condition_of a t) following (p + length (condition_code a p t)) t
 
   -- The code of a condition that is a chain of tests by one logical operator. Only the last operand decides by the jump at the end of
-  -- the condition. If an earlier operand decides the condition, then control continues after this jump. The length of the code does
-  -- not depend on the position after this jump, so the code is first emitted for an arbitrary position. A negated condition uses tests
-  -- by the opposite logical operator, since an operand that decides the tests decides the negated condition.
+  -- the condition's code. If an earlier operand decides the condition, then control continues after this jump. The length of the code
+  -- does not depend on the position after the jump at its end, so the code is first emitted for an arbitrary position. A negated
+  -- condition uses tests by the opposite logical operator, since an operand that decides the tests decides the negated condition.
   abbrev pub after_tests : LogicalOperator → Expression → Operations → (p t : ℕ) → ℕ
   after_tests u a os p t = p + length (tests_code u a os 0 p t) + 1
 
@@ -129,9 +130,9 @@ module _ (starts : Starts) where
   choice_of u (Binary a os ty) t = if are_tests u os then last_condition os (condition_of a t) t else condition_of (Binary a os ty) t
   choice_of u a t = condition_of a t
 
-  -- The condition of a branch. Each deciding test by the operator u jumps to the position `other` of the statement after `else`. The
-  -- last test jumps to `other` by the jump after the code. The deciding tests are failing tests by `&&` or, if the condition is
-  -- negated, tests by `||` that hold.
+  -- The condition of a branch. Each test by the operator u that decides the condition jumps to the position `other` of the statement
+  -- after `else`. The last test jumps to `other` by the jump after the code of the condition. The deciding tests are failing tests
+  -- by `&&` or, if the condition is negated, tests by `||` that hold.
   abbrev pub branch_code : LogicalOperator → Expression → (other p t : ℕ) → List Instruction
   branch_code u (Unary unary.Not a) other p t = branch_code (turned_test u) a other p t
   branch_code u (Binary a os ty) other p t =

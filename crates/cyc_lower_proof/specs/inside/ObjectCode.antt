@@ -39,15 +39,16 @@ abbrev pub slots_of_kinds : List Kind → ℕ
 slots_of_kinds [] = 0
 slots_of_kinds (kind ∷ ks) = words_of_kind kind + slots_of_kinds ks
 
--- Stores values of these kinds, from consecutive slots, to the cells of the object whose address is in a slot. Each cell begins at the
--- first offset from `at` on that is aligned for its kind.
+-- Stores values, whose representation kinds (int, char, pointer, ..) are listed in `ks`, from consecutive slots to the cells of the
+-- object whose address is in a slot. Each cell begins at the first offset from `at` on that is aligned for its kind.
 abbrev pub cells_code : List Kind → (address at slot : ℕ) → List Instruction
 cells_code [] address at slot = []
 cells_code (kind ∷ ks) address at slot =
     stores_code kind (words_of_kind kind) address (begins kind at) slot ++ cells_code ks address (following kind at) (slot + words_of_kind kind)
 
--- Allocates a block in the region of a handle, with a cell for each of these kinds. The code then stores the values in the slots from t on
--- into the block. The address of the block is in the slot after these values, and is then moved to slot d.
+-- Allocates a block in the region of a handle, with a cell for each representation kind (int, char, pointer, ..) in the list `ks`. The
+-- code then stores the values in the slots from t on into the block. The address of the block is in the slot after these values, and is
+-- then moved to slot d.
 abbrev pub object_code : (handle : Operand) → List Kind → (d t : ℕ) → List Instruction
 object_code handle ks d t =
     instructions.Ask (requests.Allocate (t + slots_of_kinds ks) handle (operands.Word (max 1 (words_for (bytes_from 0 ks)))))
@@ -61,7 +62,8 @@ object_code handle ks d t =
 abbrev pub most_elements : (bytes : ℕ) → ℕ
 most_elements bytes = if bytes == 4 then 1000 else if bytes == 1 then 4000 else 333
 
--- Checks the length in slot t of an array with elements of this kind, and moves it to slot x. Sets the index in slot y to 0.
+-- Checks the length of a new array, which is in slot t, and moves it to slot x. The limit of the length depends on the size
+-- of the elements. Sets the index in slot y to 0.
 abbrev pub measured_code : Starts → Kind → (x y t : ℕ) → List Instruction
 measured_code starts kind x y t =
     guard_code starts array_size comparisons.GreaterOrEqualUnsigned (operands.Slot t) (operands.Word (most_elements (bytes_of_kind kind) + 1))
@@ -136,7 +138,8 @@ free_code o p = jump_if_zero o (p + 2) ∷ instructions.Ask (requests.Free o) �
 
 -- ---- swaps
 
--- Loads a word of a cell of this kind, given the word's index in the cell, from the address in a slot.
+-- Loads one word of a cell (or the byte of a char) from memory into a slot, given the word's index in
+-- the cell and the slot with the cell's address.
 abbrev pub load_at : Kind → (address : ℕ) → (index slot : ℕ) → Instruction
 load_at kind address index slot = load_of kind slot (operands.Slot address) (4 * index)
 

@@ -59,7 +59,8 @@ counted types slot = record { locals = types.locals; structs = types.structs; ra
 abbrev pub with_counter : Starts → (slot : ℕ) → Starts
 with_counter starts slot = record { locals = starts.locals; tag_slot = starts.tag_slot; structs = starts.structs; raises = starts.raises; counters = starts.counters ++ slot ∷ []; globals = starts.globals; scopes = starts.scopes }
 
--- The offset of a cell of a kind that is laid out after `at` bytes, as a wrapped 32-bit word.
+-- The offset of a cell that is laid out after `at` bytes and aligned for its representation kind (int, char, pointer, ..), as a wrapped
+-- 32-bit word.
 abbrev pub begins_word : Kind → (at : ℕ) → ℕ
 begins_word kinds.Int at = add_of at 3 / 4 * 4
 begins_word kinds.Char at = at

@@ -86,7 +86,7 @@ pointer_operator pointers.NullIsNot = plain_binary.NotEqual
 pointer_operator pointers.EqualThin = plain_binary.Equal
 pointer_operator pointers.NotEqualThin = plain_binary.NotEqual
 
--- A kind that has as many words as the left operand of a pointer operator.
+-- A representation kind whose values have as many words as the left operand of a pointer operator.
 abbrev pub left_kind : PointerOperator → Kind
 left_kind pointers.AddFat = kinds.Fat
 left_kind pointers.SubtractFat = kinds.Fat
@@ -133,7 +133,8 @@ abbrev pub left_with : (simple : Bool) → (left : Option Operand) → Option Op
 left_with true left = left
 left_with false left = None
 
--- The slot for the result of the operators that come before the list `os` in a chain; it is the destination if the list is empty.
+-- The slot for the result of the operators that come before the operators `os` in a chain of operators. It is the destination if
+-- `os` is empty.
 abbrev pub next_slot : Operations → (d t : ℕ) → ℕ
 next_slot NoOperations d t = d
 next_slot os d t = t
@@ -180,7 +181,7 @@ abbrev pub move_of : (words d : ℕ) → Operand → Instruction
 move_of words d (operands.Slot n) = if words == 1 then instructions.Move d (operands.Slot n) else instructions.MoveWords d n words
 move_of words d (operands.Word n) = instructions.Move d (operands.Word n)
 
--- Checks that a value is not null if the kind to which it is converted does not allow null.
+-- Checks that a value is not null if the pointer kind to which it is converted does not allow null.
 abbrev pub tested_code : Starts → (to : Kind) → Operand → List Instruction
 tested_code starts kinds.NonNull o = check_code starts null_exception o
 tested_code starts to o = []
@@ -416,7 +417,7 @@ loaded_code kind o bytes d t =
     ∷ instructions.Load d (operands.Slot t) 0
     ∷ []
 
--- The kind of the variable to which a pointer of this type points.
+-- The representation kind (int, char, pointer, ..) of the variable to which a pointer of a given type points.
 abbrev pub kind_after : Ty → Kind
 kind_after t = unwrap_or (target_of_value (Value t)) kinds.Int
 
@@ -425,7 +426,8 @@ abbrev pub variable_bytes : Kind → ℕ
 variable_bytes kinds.Char = 3
 variable_bytes kind = 0
 
--- The address of the global of this kind whose first word has the index `first` among the words of all globals.
+-- The address of the global whose first word has the index `first` among the words of all globals; the address
+-- of a char is that of its word's last byte.
 abbrev pub address_of_global : Kind → (first : ℕ) → ℕ
 address_of_global kind first = add_of (add_of GLOBALS_BASE (mul_of (first % 2 ^ 32) 4)) (variable_bytes kind)
 
@@ -459,7 +461,7 @@ abbrev pub all_passed : Arguments → ℕ
 all_passed NoArguments = 0
 all_passed (MoreArguments c cs) = passed_words c + all_passed cs
 
--- the kind with which an argument is passed
+-- the representation kind (int, char, pointer, ..) to which an argument is converted before it is passed
 abbrev pub kind_passed : Converted → Kind
 kind_passed (Convert from to a) = to
 

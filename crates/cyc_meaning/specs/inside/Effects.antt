@@ -100,7 +100,7 @@ pub record ObjectStays (old new : Object) : Type 0 where
   pub owner : OwnerStays old.owner new.owner
   pub kinds : kinds_of new.cells ≡ kinds_of old.cells
 
--- Says that no number is reused: each region and each object keeps its number.
+-- Says that no index of a region or an object is reused: each region and each object keeps its index.
 pub record WorldStays (old new : World) : Type 0 where
   pub regions : (number : ℕ) (r : Region) → slice_get old.regions number ≡ Some r
       → (s : Region) × (slice_get new.regions number ≡ Some s) × RegionStays r s

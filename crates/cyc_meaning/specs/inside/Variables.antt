@@ -47,7 +47,7 @@ abbrev pub region_in : Option Object → Option ℕ
 region_in None = None
 region_in (Some x) = region_of x.owner
 
--- Says that the owner of the object with the given number is the given region.
+-- Says that the owner of the object with the given index is the given region.
 abbrev pub LivesIn : List Object → (object region : ℕ) → Type 0
 LivesIn objects object region = region_in (slice_get objects object) ≡ Some region
 
@@ -76,7 +76,7 @@ waiting [] = []
 waiting (Caller outer ∷ stack) = outer.locals ∷ waiting stack
 waiting (entry ∷ stack) = waiting stack
 
--- Says that an object is the local with the given number, of the call at the given position in the list of calls.
+-- Says that an object is the local with the given index, of the call at the given position in the list of calls.
 abbrev pub IsLocal : List Locals → (call number object : ℕ) → Type 0
 IsLocal calls call number object = (locals : Locals) × (slice_get calls call ≡ Some locals) × (locals number ≡ Some object)
 
@@ -160,7 +160,7 @@ HaveNames globals calls objects regions =
 abbrev pub AreDistinct : List Locals → Type 0
 AreDistinct calls = (call other number beside object : ℕ) → IsLocal calls call number object → IsLocal calls other beside object → (call ≡ other) × (number ≡ beside)
 
--- Says that the globals are the first objects.
+-- Says that the objects with indices below the number of globals live in the region of the globals.
 abbrev pub AreGlobals : (globals : ℕ) → List Object → Type 0
 AreGlobals globals objects = (object : ℕ) → object < globals → LivesIn objects object globals_number
 

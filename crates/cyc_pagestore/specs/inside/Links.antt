@@ -1,4 +1,4 @@
--- The rows of a page table and the links between them, as data, and the effect of the table's calls on them.
+-- The rows of a page table (each the data of one page) with the links between them, as data, and the effect of the table's calls on them.
 use Rattle.std.specs.Prelude.{ℕ, zero, suc, ◌+◌, ◌==◌, if◌then◌else◌, List, [], ◌∷◌, replicate, set}
 use Rattle.cyc_store.specs.Table.{free_row, row_at, given_rows, given_free}
 use Rattle.cyc_store.specs.inside.Kept.{numbers_from}
@@ -9,7 +9,7 @@ use Rattle.cyc_store.specs.declared.row.TheConstants.{NONE}
 use Rattle.cyc_pagestore.specs.declared.step.Step.{Step}
 use Rattle.cyc_pagestore.specs.declared.step.Step.TheVariants.{Made, Taken, Began, Added, Filled, Cut, Closed}
 
--- The links of a page table: the row of each page, the first free page, and all free pages in the order of their links.
+-- The links of a page table: the row (data) of each page, the first free page, and all free pages in the order of their links.
 pub record Links : Type 0 where
   pub rows : List Row
   pub free : ℕ

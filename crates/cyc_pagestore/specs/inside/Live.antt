@@ -15,7 +15,8 @@ reach_by serial owner fill page = if serial page == serial (owner page) then fil
 abbrev pub reach : PoolState → (page : ℕ) → ℕ
 reach p page = reach_by (λ (q : ℕ). slice_index p.serials q) (λ (q : ℕ). slice_index p.owners q) (λ (q : ℕ). filled_by p.fills q) page
 
--- Says that the pool stores a fill mark, an owner and a serial for each page, and that each page's owner is a page.
+-- Says that the pool stores a fill mark (the end of the filled words), an owner (its region's first page) and a
+-- serial for each page. Each page's owner is a page.
 pub record IsWhole (p : PoolState) : Type 0 where
   pub few : p.pages ≤ 65536
   pub fills : length p.fills ≡ p.pages

@@ -35,7 +35,7 @@ blank_table pages = record {
   free = head_or_none (numbers_from 0 pages);
 }
 
--- Says that the free pages of a pool belong to no chain of a region.
+-- Says that no region's chain of pages begins at a free page of a pool.
 pub record AreAlone (p : PoolState) : Type 0 where
   pub free : length p.free ≡ p.pages
   pub chains : length p.chains ≡ p.pages
@@ -138,7 +138,8 @@ pub record IsMember (b : Backing) (root page : ℕ) : Type 0 where
   pub role : (page ≡ root → ⊥) → b.role page ≡ Rest
   pub inner : (page ≡ root → ⊥) → b.chain page ≡ []
 
--- Says that the pages of an open region, linked newest first by the rows, are the pool's chain that begins with the region's first page.
+-- Says that an open region's pages, linked newest first by their rows of the page table, are the pool's chain that begins with the
+-- region's first page.
 pub record IsRegion (b : Backing) (row : ℕ → Row) (root : ℕ) : Type 0 where
   pub chain : List ℕ
   pub linked : IsChain (λ (p : ℕ). (row p).next) (row root).newest chain

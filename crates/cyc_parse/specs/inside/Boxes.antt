@@ -1,4 +1,4 @@
--- The specification values that stand for the tree nodes that the code stores in boxes.
+-- The values of the specification that stand for the tree nodes that the parser's code stores in boxes.
 use Rattle.std.specs.declared.boxed.Box.{Box}
 use Rattle.std.specs.declared.alloc.Global.{Global as Heap}
 use Rattle.cyc_syntax.specs.declared.tree.Expr.{Expr}

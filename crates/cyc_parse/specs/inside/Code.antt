@@ -28,13 +28,13 @@ view_reason reasons.Unexpected = Unexpected
 view_reason reasons.TooDeep = TooDeep
 view_reason reasons.TooLong = TooLong
 
--- Says that the code rejects the input exactly as the specified parser does, at the first symbol left. If memory runs out, `Stops`
--- always holds.
+-- Says that the parser's code rejects the input exactly as the specified parser does, at the first symbol left. If memory runs
+-- out, `Stops` always holds.
 abbrev pub Stops : {Y : Type 0} → Stop → Outcome Y → List Symbol → Type 0
 Stops stops.Memory outcome left = Unit {0}
 Stops (stops.Refused why) outcome left = outcome ≡ Err (record { reason = view_reason why; left = left })
 
--- Says that the code's result (mapped by `view`) and the symbols that the code leaves unread equal those of the specified parser, unless
+-- Says that the result of the parser's code (mapped by `view`) and the symbols left unread equal those of the specified parser, unless
 -- memory ran out.
 abbrev pub Gives : {X Y : Type 0} → (X → Y) → Result X Stop → Outcome Y → List Symbol → Type 0
 Gives view (Ok x) outcome left = outcome ≡ Ok (view x, left)

@@ -1,5 +1,5 @@
--- Parsers of symbols, and the parsers of one symbol. The code computes the parser functions of this file and of the files that build on
--- it; `proofs/` relates them to the grammar.
+-- The type of parsers, functions that read a list of symbols, and the parsers of a single symbol. The parser's code computes the parser
+-- functions of this file and of the files that build on it; `proofs/` relates them to the grammar.
 use Rattle.std.specs.Prelude.{ℕ, zero, suc, Bool, false, List, [], ◌∷◌, Option, Some, None, is_some, ◌&&◌, Result, Ok, Err, if◌then◌else◌}
 use denote.Enum.Bare.{sameb}
 use Rattle.cyc_syntax.specs.declared.tokens.Keyword.{Keyword}

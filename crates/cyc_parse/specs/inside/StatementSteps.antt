@@ -1,5 +1,5 @@
--- Parts of the parser of statements that are separate functions in the code. For each list that the code reads in a loop, one step reads
--- the next block item or catch clause if the list continues.
+-- This file defines those steps of the parser of statements that are functions of their own in the parser's code. For each list that the
+-- parser's code reads in a loop, one step reads the next block item or catch clause if the list continues.
 use Rattle.std.specs.Prelude.{ℕ, suc, Option, Some, None, option_map}
 use Rattle.cyc_syntax.specs.declared.tokens.Keyword.TheVariants as words
 use Rattle.cyc_syntax.specs.declared.tokens.Sign.TheVariants as signs

@@ -1,5 +1,5 @@
--- Parts of the parser that are separate functions in the code. For each list that the code reads in a loop, one step reads the next list
--- element if the list continues.
+-- This file defines those steps of the parser that are functions of their own in the parser's code. For each list that the parser's code
+-- reads in a loop, one step reads the next list element if the list continues.
 use Rattle.std.specs.Prelude.{ℕ, zero, suc, ◌+◌, ◌-◌, Bool, false, not, ◌&&◌, ◌||◌, nat_lt, nat_le, if◌then◌else◌, List, [], ◌∷◌, Option, Some, None, is_some}
 use Rattle.cyc_syntax.specs.declared.tokens.Keyword.TheVariants as words
 use Rattle.cyc_syntax.specs.declared.tokens.Sign.TheVariants as signs

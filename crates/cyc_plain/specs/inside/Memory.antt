@@ -66,7 +66,7 @@ abbrev pub word_or : Option ℕ → Words → (other : Option ℕ) → Option �
 word_or (Some number) words other = Some (words number)
 word_or None words other = other
 
--- Returns the word at an address that belongs to a slot of one of these waiting calls, or `None`.
+-- Returns the word of the slot at an address, if this is the address of a slot of one of the given waiting calls, or `None`.
 abbrev pub word_waiting : Program → List Frame → (address : ℕ) → Option ℕ
 word_waiting program [] address = None
 word_waiting program (f ∷ frames) address =
@@ -85,7 +85,7 @@ with_waiting program (f ∷ frames) address word =
 
 -- ---- loads and stores
 
--- The range of memory to which an address belongs.
+-- The range of memory in which an address lies: that of the globals, that of the store or that of the slots.
 pub data Range : Type 0 where
   OfGlobals : Range
   OfStore : Range

@@ -1,5 +1,5 @@
 -- Plain programs as mathematical data. The form of plain programs, three-address code over numbered slots, is common in compilers. The
--- contents of plain programs, and all numbers in them, are this project's own choice.
+-- components of plain programs, and the numbers in the bounds on their code size, are this project's own choice.
 use Rattle.std.specs.Prelude.{ℕ, suc, ◌+◌, ◌*◌, List, [], ◌∷◌, ◌++◌, length, map, sum_by, slice_index_or}
 use Rattle.std.specs.List.{range_with_len}
 use Rattle.cyc_words.specs.declared.span.Span.{Span}

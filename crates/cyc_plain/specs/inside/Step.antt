@@ -120,8 +120,8 @@ abbrev pub served_to : services.Choice → Configuration → (destination : ℕ)
 served_to serving c destination call =
     advanced (with_slots (record c { store = served c.store call serving }) (reported (answer c.store call serving) destination c.active.slots))
 
--- Returns the state after a call of the store. If memory for the result is lacking, the run ends for every choice of the store,
--- since the pages required depend only on sizes. A refusal for another reason makes the run stuck.
+-- Returns the state after a call of the store. If the store lacks memory for the result, the run ends for every choice of the store, since
+-- the pages required depend only on sizes. A run gets stuck if the store refuses a call for a reason other than lack of memory.
 abbrev pub asks : services.Choice → Configuration → (destination : ℕ) → Call → Option Refusal → State
 asks serving c destination call None = Running (served_to serving c destination call)
 asks serving c destination call (Some services.Full) = Ended Full c.output c.input

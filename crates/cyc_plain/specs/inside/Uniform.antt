@@ -1,5 +1,6 @@
 -- On the uniform machine, the limit of calls is the same at each instruction, so that `Enter` has no effect. A program without `Enter` has
--- the same steps on the uniform machine and on the plain machine. Passes that produce such programs are proved on the uniform machine.
+-- the same steps on the uniform machine and on the plain machine. Passes that produce programs without `Enter` are proved on the uniform
+-- machine.
 use Rattle.std.specs.Prelude.{◌≡◌, ℕ, Some}
 use Rattle.cyc_words.specs.Simulation.{Machine}
 use Rattle.cyc_plain.specs.declared.instruction.Instruction.TheVariants as instructions

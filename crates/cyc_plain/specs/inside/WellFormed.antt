@@ -35,8 +35,7 @@ abbrev pub IsOperand : Routine → Operand → Type 0
 IsOperand r (operands.Slot number) = number < r.slots
 IsOperand r (operands.Word word) = Unit {0}
 
--- `IsMoveInRange` concerns an instruction that moves several words. It says that the slots of the move exist, and that the move
--- copies no more words than a value can have.
+-- `IsMoveInRange` says that the slots of a move of several words exist, and that the move copies no more words than a value can have.
 pub record IsMoveInRange (r : Routine) (destination source count : ℕ) : Type 0 where
   pub some : 0 < count
   pub few : count ≤ GREATEST_VALUE

@@ -1,5 +1,5 @@
--- The facts required at jump targets, in the form in which the Rust code stores them. The check of these facts has two halves: one for
--- jumps, and one for the step to the next instruction.
+-- The facts required at jump targets, in the form in which the Rust code stores them. The check of the facts required at an
+-- instruction's successors has two halves: one for its jump target, and one for the next instruction.
 use Rattle.std.specs.Prelude.{◌≡◌, ℕ, ◌+◌, ◌<◌, ◌≤◌, Bool, true, false, not, ◌==◌, ◌&&◌, ◌||◌, if◌then◌else◌, List, length, Option, Some, None, slice_get, slice_index_or}
 use Rattle.cyc_plain.specs.declared.instruction.Instruction.{Instruction}
 use Rattle.cyc_plain.specs.declared.instruction.Instruction.TheVariants as instructions
@@ -26,8 +26,9 @@ entry_in entries index = entry_of (slice_get entries index)
 abbrev pub IsLess : (asked less : List Fact) → Type 0
 IsLess asked less = (facts : List Fact) (more : Option Fact) → are_known asked facts more ≡ true → are_known less facts more ≡ true
 
--- `AreNarrowed` says that jump targets after `index` require at most the facts that they required before, and that earlier
--- positions require the same facts. A position to which no jump was known before may require any facts.
+-- `AreNarrowed` compares the facts required at code positions before and after a change. Positions up to `index` require
+-- the same facts as before the change, and each later jump target requires at most the facts of before. A later position
+-- that was no jump target before the change may require any facts after it.
 pub record AreNarrowed (index : ℕ) (old new : ℕ → Option (List Fact)) : Type 0 where
   pub same : (k : ℕ) → k ≤ index → new k ≡ old k
   pub less : (k : ℕ) (facts : List Fact) (more : Option Fact) → may_jump (old k) facts more ≡ true → may_jump (new k) facts more ≡ true

@@ -337,7 +337,7 @@ tested pinned (instructions.Unary operator destination operand) = if is_not oper
 tested pinned (instructions.Binary operator destination left right) = truth_of pinned operator destination
 tested pinned instruction = None
 
--- Returns the facts with one more fact. If the list is full, the oldest fact is dropped.
+-- Returns the facts with one more fact. If the list of facts has its maximal length, the oldest fact is dropped.
 abbrev pub remembered : List Fact → Option Fact → List Fact
 remembered facts (Some fact) = (if nat_lt (length facts) MOST_FACTS then facts else drop 1 facts) ++ fact ∷ []
 remembered facts None = facts

@@ -105,9 +105,10 @@ abbrev pub simplified_unary : Option ℕ → UnaryOperator → (destination : �
 simplified_unary (Some word) operator destination operand = instructions.Move destination (operands.Word word)
 simplified_unary None operator destination operand = instructions.Unary operator destination operand
 
--- Returns true if constant folding of an operator loses no knowledge of the result: the left operand is a constant, or the operator
--- overwrites one of its own operands. In all other cases the operator is not folded, so that a value that a loop recomputes from the
--- same slots is known at the loop's header.
+-- Returns true if constant folding of an operator loses no fact about how its result was computed: its left operand is constant, or
+-- it overwrites an operand. An operator of any other form is not folded (replaced by its constant result), so that the fact about
+-- how its result was computed is recorded. With such facts, a value that a loop recomputes from the same slots as the code before
+-- the loop is known at the loop's header.
 abbrev pub may_fold : (destination : ℕ) → (left right : Operand) → Bool
 may_fold destination left right = not (is_cheap left) || (is_slot left destination || is_slot right destination)
 

@@ -84,7 +84,7 @@ facts_at program pinned entry code (suc index) =
 
 -- ---- the check
 
--- Returns true if an additional fact, such as one that a branch establishes, is given and equals the other given fact.
+-- Returns true if there is an additional fact, such as one that a branch establishes, and if it equals the fact that is looked up.
 abbrev pub is_more : Option Fact → Fact → Bool
 is_more (Some other) fact = is_same_fact other fact
 is_more None fact = false
@@ -121,7 +121,7 @@ abbrev pub may_jump : Option (List Fact) → (facts : List Fact) → Option Fact
 may_jump (Some asked) facts more = are_known asked facts more
 may_jump None facts more = false
 
--- Returns true if the next position is no jump target, or if all facts that it requires are known.
+-- Returns true if the next position is no jump target, or if all facts required at the next position are known.
 abbrev pub may_go_on : Option (List Fact) → (facts : List Fact) → Option Fact → Bool
 may_go_on (Some asked) facts more = are_known asked facts more
 may_go_on None facts more = true
@@ -134,8 +134,8 @@ abbrev pub is_empty : List Fact → Bool
 is_empty [] = true
 is_empty (fact ∷ facts) = false
 
--- Returns true if each successor of the simplified instruction requires only facts known there. A jump and a branch write nothing. An
--- unreachable jump has no successor.
+-- Returns true if each successor of the simplified instruction requires only facts that are known after this instruction. A jump and
+-- a branch write nothing. An unreachable jump has no successor.
 abbrev pub leads_well : Program → List Bool → (entry : ℕ → Option (List Fact)) → List Fact → Instruction → (index : ℕ) → Bool
 leads_well program pinned entry facts (instructions.Jump target) index = is_unreached facts || may_jump (entry target) facts None
 leads_well program pinned entry facts (instructions.Branch comparison left right target) index =

@@ -1,4 +1,4 @@
--- The free pages and the chains of a pool as lists, and the effect of the pool's functions on these lists.
+-- The free pages of a pool and its chains of linked pages, as lists, and the effect of the pool's functions on these lists.
 use Rattle.std.specs.Prelude.{◌==◌, ℕ, zero, suc, Bool, true, false, if◌then◌else◌, List, [], ◌∷◌, ◌++◌, drop, replicate, slice_index_or, set}
 use Rattle.cyc_rawpages.specs.declared.change.Change.{Change}
 use Rattle.cyc_rawpages.specs.declared.change.Change.TheVariants.{Made, Taken, Pushed, Given}
@@ -8,7 +8,7 @@ pub record Lists : Type 0 where
   pub free : List ℕ
   pub chains : List (List ℕ)
 
--- The chain with the given head page; the chain is empty if the page is not a head.
+-- The chain of linked pages with the given head (first page); the chain is empty if the page is not a head.
 abbrev pub chain_at : List (List ℕ) → (head : ℕ) → List ℕ
 chain_at chains head = slice_index_or chains head []
 

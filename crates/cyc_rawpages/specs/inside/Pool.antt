@@ -17,13 +17,14 @@ pub record PoolState : Type 0 where
   pub bits : List Bool
   -- For each page, true if the page is free.
   pub free : List Bool
-  -- For each page, the pages of the chain that begins with the page, in order. The list is empty if the page is not the head of a chain.
+  -- For each page, the pages of the chain that begins with the page, in the order of their links. The list is empty if the page is not
+  -- the head of a chain.
   pub chains : List (List ℕ)
 
 abbrev pub IsFree : (free : List Bool) → (page : ℕ) → Type 0
 IsFree free page = slice_index_or free page false ≡ true
 
--- Says that a page is the head of a chain.
+-- Says that a page is the head (first page) of a chain of linked pages.
 abbrev pub IsHead : List (List ℕ) → (page : ℕ) → Type 0
 IsHead chains page = (rest : List ℕ) × (chain_at chains page ≡ page ∷ rest)
 

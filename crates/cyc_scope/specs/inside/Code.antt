@@ -11,8 +11,8 @@ abbrev pub fault_of : Stop → Fault
 fault_of stops.Memory = memory_fault
 fault_of (stops.Refused f) = f
 
--- Says that a rejection by the checker's code is the fault that the typing rule reports. If memory runs out, nothing is said
--- about the fault.
+-- Says that a rejection by the checker's code is the fault that the typing rule reports. If the checker's code runs out of
+-- memory, this relation says nothing about the fault.
 abbrev pub Stops : {Y : Type 0} → Stop → Checked Y → Type 0
 Stops stops.Memory checked = Unit {0}
 Stops (stops.Refused f) checked = checked ≡ Err f
@@ -22,8 +22,8 @@ abbrev pub Gives : {X Y : Type 0} → (X → Y) → Result X Stop → Checked Y 
 Gives view (Ok x) checked = checked ≡ Ok (view x)
 Gives view (Err e) checked = Stops e checked
 
--- Says that the code continues if no fault has been recorded, and otherwise stops with the recorded fault; the code never runs
--- out of memory.
+-- Says that the checker's code continues if no fault has been recorded, and otherwise stops with the recorded fault. The
+-- checker's code to which this applies never runs out of memory.
 abbrev pub Ends : Result (Unit {0}) Stop → Option Fault → Type 0
 Ends (Ok u) known = known ≡ None
 Ends (Err stops.Memory) known = ⊥

@@ -62,7 +62,8 @@ abbrev pub newest : List LocalVariable → ℕ → Option LocalVariable
 newest [] x = None
 newest (v ∷ vs) x = if nat_eq v.name x then Some v else newest vs x
 
--- says that the table contains the index of the newest local of each name, and that each local stores the index of one it hides
+-- says that the table contains the index of the newest local of each name, and that each local stores the index of the older
+-- local that it hides
 abbrev pub Finds : List (Option ℕ) → List Binding → Type 0
 Finds table bs = ((x : ℕ) → get_or table x None ≡ newest_place (local_names (locals_of bs)) x)
     × (map (λ (b : Binding). b.hidden) (reverse bs) ≡ hidden_by (local_names (locals_of bs)))

@@ -6,7 +6,7 @@ use Rattle.cyc_types.specs.declared.scope.Kind.{Kind}
 use Rattle.cyc_types.specs.typing.Scopes.{LocalVariable, Scope, with_scope}
 use Rattle.cyc_scope.specs.declared.scope.Mark.{Mark}
 
--- says that the numbers of the locals' regions never increase from the newest local to the oldest, and are at most `region`
+-- says that the indices of the locals' regions never increase from the newest local to the oldest, and are at most `region`
 abbrev pub Descends : ℕ → List LocalVariable → Type 0
 Descends region [] = Unit {0}
 Descends region (v ∷ vs) = (v.region ≤ region) × Descends v.region vs
@@ -26,7 +26,7 @@ mark_of g = record {
   counters = g.counters;
 }
 
--- The scope without the names added since its mark (a record of the scope's size) was taken. The numbers of the
+-- The scope without the names added since its mark (a record of the scope's size) was taken. The indices of the
 -- removed locals and regions, and the removed region names, are not used for later declarations.
 abbrev pub left_to : Mark → Scope → Scope
 left_to m g = record g {
@@ -38,6 +38,6 @@ left_to m g = record g {
   counters = m.counters;
 }
 
--- the scope after the region with the next number, which already has a name, is declared and opened
+-- the scope after the region with the next index, which already has a name, is declared and opened
 abbrev pub with_next_opened : Kind → Scope → Scope
 with_next_opened k g = record g { next_region = suc g.next_region; regions = with_scope k (regions.Variable g.next_region) g.regions }

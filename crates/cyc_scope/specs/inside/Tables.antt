@@ -1,4 +1,4 @@
--- The code finds a declaration by its name in a table of the indices of the first, or of the newest, declaration with each name.
+-- The checker finds a declaration by its name in a table of the indices of the first, or of the newest, declaration with each name.
 use Rattle.std.specs.Prelude.{ℕ, suc, nat_eq, if◌then◌else◌, List, [], ◌∷◌, map, length, Option, Some, None, option_map}
 use Rattle.cyc_types.specs.typing.Scopes.{Exception, Meaning, Unknown, Declared}
 

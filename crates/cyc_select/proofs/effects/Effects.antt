@@ -282,7 +282,8 @@ service_serves : (c : Configuration) (code : TrapCode) (service : Service) (numb
 service_serves c code service number next is_number asks (event, s, acts, is) =
     (event, s, subst (λ (a : Action). Acts a (machine_of c) event s) (called c code service (ap (service_of (core_of c)) is_number ∙ asks)) acts, is)
 
--- If a system call reports an event and leaves a machine state, this event and this machine state determine the next observed state.
+-- If a system call reports an event and leaves a state of the MIPS machine, the event and this state determine the labelled
+-- machine's next state.
 seen : (c : Configuration) (next : State) (event reported_event : Event) (s left : machines.State) → event ≡ reported_event → s ≡ left
     → next ≡ settled (reported (world_of c) event s) (c.line + 1) (reported (world_of c) event s).machine.phase
     → next ≡ settled (reported (world_of c) reported_event left) (c.line + 1) (reported (world_of c) reported_event left).machine.phase
@@ -361,7 +362,7 @@ service_is c (requests.Free address) = refl
 abbrev pub given_answer : Configuration → Answer → StoreState → Configuration
 given_answer c a store = record c { registers = answered_registers c a; store = store; line = c.line + 1 }
 
--- Returns the observed state after the store (the heap of regions) has answered a call.
+-- Returns the labelled machine's state after the store (the heap of regions) has answered a system call.
 abbrev after_answer : Configuration → Answer → StoreState → State
 after_answer c a store =
     settled (reported (world_of c) (reported_by a) (answered (with_store (machine_of c) store) a)) (c.line + 1)

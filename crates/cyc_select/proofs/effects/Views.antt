@@ -101,7 +101,7 @@ does_w (Memory StoreByte source base offset) r w =
     written w (word_of address) (stored_word OneByte address (w.words (word_of address)) (r source.number))
 does_w i r w = w
 
--- Code may write a register if its number is not 0.
+-- `IsWritable` says that code may write the register with this number: the number is not 0.
 abbrev pub IsWritable : ℕ → Type 0
 IsWritable number = (number == 0) ≡ false
 

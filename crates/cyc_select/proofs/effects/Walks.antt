@@ -458,7 +458,7 @@ module _ (code : Labelled) (formed : IsFormed code) (addresses : ℕ → ℕ) (g
       );
     }
 
-    -- The run ends if the store has no memory left for the call's result.
+    -- The run ends if the store (the heap of regions) has no memory left for the result of the system call.
     pub walk_no_room : {Late : State → Type 0} → suc k ≤ hi → refusal store call ≡ Some services.Full → Goal (Ended Full out input) → Walk 1 lo hi out Late Goal (Running c)
     walk_no_room below full goal =
         walk_step 0 lo hi out Goal c (Ended Full out input) (omega (arith, from, now.at_line)) now.output (sym now.input)

@@ -485,7 +485,7 @@ copies_next caller callee source count word below =
     ∙ ap (λ (n : ℕ). pass_count caller callee (source + word) word + copies_count caller callee n (suc word) (count - (word + 1))) from
     ∙ ap (λ (n : ℕ). pass_count caller callee (source + word) word + copies_count caller callee (source + (word + 1)) n (count - (word + 1))) to
 
--- The number of result registers is at most the number of result words.
+-- At most as many registers hold a function's result words as there are result words.
 pub registers_few : (count : ℕ) → length (result_registers count) ≤ count
 registers_few zero = omega arith
 registers_few (suc zero) = omega arith

@@ -259,7 +259,7 @@ lines_at program frames function index here (i ∷ code) zero d below = omega ar
 lines_at program frames function index here (i ∷ code) (suc k) d below =
     omega (arith, lines_at program frames function (suc index) (here + count_of program frames function index i) code k d (omega arith))
 
--- The table of line numbers stays correct when one more function is appended to it.
+-- The table of line numbers stays correct when the line numbers of one more function are appended to it.
 pub numbered_more : (program : Program) (frames : List Frame) (k : ℕ) (functions : List FunctionLines) (its : FunctionLines) → AreNumbered program frames k functions → IsNumbered program frames k its
     → AreNumbered program frames (k + 1) (functions ++ its ∷ [])
 numbered_more program frames k functions its are one = record {

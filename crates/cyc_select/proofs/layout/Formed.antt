@@ -1,4 +1,4 @@
--- Each MIPS line of the selected code is well-formed, and each piece of this code takes few machine words.
+-- Each MIPS line of the selected code is well-formed, and the number of machine words of each piece of this code has an upper bound.
 use Rattle.std.proofs.Common.{◌≡◌, ℕ, zero, suc, ◌+◌, ◌-◌, ◌*◌, ◌/◌, ◌%◌, ◌^◌, ◌<◌, ◌≤◌, Bool, true, false, List, [], ◌∷◌, ◌++◌, length, take, Option, None, Some, slice_get, refl, ap, subst, ◌∙◌, arith}
 use Rattle.std.specs.Prelude.{◌==◌, if◌then◌else◌, slice_index_or}
 use Rattle.std.specs.List.{AllByRecursion}

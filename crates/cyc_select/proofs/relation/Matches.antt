@@ -139,7 +139,7 @@ module _ (program : Program) (well : IsWellFormed program) (frames : List Frame)
     pub slots : c.active.slots ≡ put (put waiting first (r 4)) (suc first) (r 5)
 
   -- `Begun` relates states in which the first line of this instruction was already executed, as a copy hoisted before the branch to it.
-  -- `before` is the configuration before the execution of this first line.
+  -- `before` is the configuration before the hoisted copy of the instruction's first line is executed.
   pub record Begun (c : Configuration) (t : State) : Type 0 where
     pub run : labelled.Configuration
     pub before : labelled.Configuration
@@ -177,8 +177,8 @@ module _ (program : Program) (well : IsWellFormed program) (frames : List Frame)
   pub within : (d : Configuration) → demand d.store ≤ pages → suc (length d.frames) ≤ calls → is_within pages calls (states.Running d) ≡ true
   within d paged deep = and_from _ _ (le-leb (demand d.store) pages paged) (le-leb (suc (length d.frames)) calls deep)
 
-  -- The plain machine performs a step if the choice of unspecified results is allowed, and the effect stays
-  -- within the limits on store pages and nested calls.
+  -- The plain machine performs a step under two conditions: the choice of the values that the step leaves open is allowed, and the effect
+  -- stays within the limits. The limits concern store pages and nested calls.
   pub steps_to : (c : Configuration) (choice : Choice) (i : Instruction) (next : states.State) → IsAllowed program (states.Running c) choice
       → instruction_at program (states.place_of (states.Running c)) ≡ Some i → performed program choice c i ≡ next → is_within pages (limit_of (Some i) calls) next ≡ true → Step program pages calls (states.Running c) next
   steps_to c choice i next allowed at does keeps =

@@ -146,7 +146,8 @@ module _ (program : Program) (a word : ℕ) where
       go (Some number) others = (here, based)
       go None others = (here, others)
 
-  -- The handler records of a call stay correct if the condition on the older record, to which its oldest record is linked, is weakened.
+  -- A call's oldest handler record is linked to an older record. If the condition on the older record is weakened, the list of the
+  -- call's handler records still satisfies `AreRecords`.
   records_map : (frames : List Frame) (addresses : ℕ → ℕ) (base function : ℕ) (rest rest' : ℕ → Type 0) → ((n : ℕ) → rest n → rest' n) → (newest : ℕ) (handlers : List states.Handler)
       → AreRecords program frames addresses base function rest newest handlers → AreRecords program frames addresses base function rest' newest handlers
   records_map frames addresses base function rest rest' goes newest [] records = goes newest records
@@ -178,8 +179,8 @@ module _ (program : Program) (a word : ℕ) where
       (λ n others. beyond_waiting frames addresses base function waiting n others) newest handlers records
 
 module _ (program : Program) (well : IsWellFormed program) (frames : List Frame) (fit : AreFrames program frames) (addresses : ℕ → ℕ) where
-  -- `IsAbove` says that `word` is the word of a waiting call's slot at the address `a`. A write of this word must preserve the relation
-  -- `Chain` on the waiting calls.
+  -- `IsAbove` says that `word` is the word of a waiting call's slot at the address `a`. A write to this slot of a waiting call must
+  -- preserve `Chain`, the relation that describes the waiting calls.
   record IsAbove (w : Contents) (base back : ℕ) (left : Words) (function : ℕ) (waiting : List states.Frame) (a word : ℕ) : Type 0 where
     low : base + frame_size ≤ a
     high : a < stack_end
@@ -208,7 +209,8 @@ module _ (program : Program) (well : IsWellFormed program) (frames : List Frame)
       frame : IsFrame (routine_at program f.caller.function) its
       frame = fit.each f.caller.function known
 
-      -- If no saved register lies at the written address, the words that the call restores to callee-saved registers are unchanged.
+      -- If no saved register of a waiting call lies at the written address, the words that this call restores to callee-saved
+      -- registers are unchanged.
       left_there : (new : ℕ) → ((j : ℕ) → j < 7 → a ≢ above + 4 * (its.first_saved + j)) → (j : ℕ) → j < 7 → LeftBy its above left (written w a new) j ≡ LeftBy its above left w j
       left_there new apart =
           left_same its.first_saved its.saved above left left w (written w a new) (λ j past high. refl)
@@ -289,8 +291,8 @@ module _ (program : Program) (well : IsWellFormed program) (frames : List Frame)
 
 module _ (program : Program) (well : IsWellFormed program) (frames : List Frame) (fit : AreFrames program frames) (addresses : ℕ → ℕ) (pages calls : ℕ) (few : calls ≤ 4096)
     (c : Configuration) (r : Words) (w : Contents) (base back : ℕ) (stage : Stage) (s : Standing program frames addresses pages calls c r w base back stage c.active.slots) (a word : ℕ) where
-  -- `IsFound` says that the word at an address of the plain program is in the machine's memory. A new word that the
-  -- machine writes there matches the same write by the plain program.
+  -- `IsFound` says that the word at an address of the plain program is in the machine's memory. If the machine and the plain program both
+  -- write a new word at this address, the machine still represents the plain program's calls.
   pub record IsFound : Type 0 where
     pub sort : Sort
     pub at : IsWordAt sort globals_length (words_per_call * calls) w a word

@@ -141,9 +141,9 @@ module _ (program : Program) (well : IsWellFormed program) (frames : List Frame)
 
     -- ---- changes that keep the relation
 
-    -- `Standing` (registers and memory represent the calls) still holds if registers change that hold no value on which it relies. It
-    -- relies on the addresses of the current and the lowest frame, on the return address and on callee-saved words not yet saved. It
-    -- also relies on the newest exception handler, the number of open regions and the base address of globals.
+    -- `Standing` (registers and memory represent the calls) still holds if registers change that hold no value on which `Standing` relies.
+    -- `Standing` relies on the addresses of the current and the lowest frame, on the return address and on callee-saved words not yet
+    -- saved. `Standing` also relies on the newest exception handler, the number of open regions and the base address of globals.
     pub standing_registers : (r' : Words) → r' 0 ≡ r 0 → r' FRAME ≡ r FRAME → r' LOWEST ≡ r LOWEST → (in_frame_at stage ≡ false → r' RETURN_ADDRESS ≡ r RETURN_ADDRESS) → lasting r' ≡ lasting r
         → ((j : ℕ) → saved_at stage (frame_at frames c.active.function) ≤ j → j < 7 → preserved_of r' j ≡ preserved_of r j) → Standing program frames addresses pages calls c r' w base back stage slots
     standing_registers r' zero_same base_same lowest_same back_same lasts_same preserved_same = record {

@@ -264,7 +264,7 @@ module _ (globals stack : ℕ) (frame : Frame) (base : ℕ) (w : Contents) where
       in_rest rest (suc j) k both = rest.result j k both ∙ there_after slot j
 
 -- `Reloaded` says that after the reloads, registers hold all live slots, if each live slot was in memory or in a register only.
--- The reloads write no other register.
+-- The reloads change only registers that are assigned to slots.
 pub record Reloaded (globals stack : ℕ) (program : Program) (frames : List Frame) (function index : ℕ) (q : Words) (w : Contents) (slots : Words) : Type 0 where
   pub safe : AreSafe globals stack (reloads (frame_at frames function)) q w
   pub memory : after_w (reloads (frame_at frames function)) q w ≡ w

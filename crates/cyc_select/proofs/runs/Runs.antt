@@ -265,7 +265,8 @@ module _ (program : Program) (well : IsWellFormed program) (words : HasWords pro
     stops_not : (i : Instruction) → IsAt i → IsAllowed program (states.Running c) zeros → performed program zeros c i ≡ states.Stuck c.output c.input → ⊥
     stops_not i at allowed stops = stuck_not c never allowed (ap (executed program zeros c) at ∙ stops)
 
-    -- A function that opens exception handlers returns by `Finish`, not by `Return`.
+    -- At the instruction `Return`, the call has no open exception handler: a function that opens handlers returns by the instruction
+    -- `Finish` instead.
     none_open : {value : ℕ} → IsAt (plain.Return value) → c.active.handlers ≡ []
     none_open {value} at = go c.active.handlers refl s.newest
       where

@@ -117,7 +117,7 @@ module _ (program : Program) (well : IsWellFormed program) (frames : List Frame)
       subst (λ (n : ℕ). slice_get code.lines (here + 3 + 1 + n) ≡ Some (lines.Call (function_line program frames callee))) (length_ordinary passed)
       (stands_back code (here + 3 + 1) (ordinary passed) call_line at_passed).0
 
-  -- The frame of the callee assigns correct homes to the callee's slots.
+  -- The homes (register or memory) that the callee's frame assigns to the callee's slots satisfy `AreHomes`.
   its_right : AreHomes program (routine_at program callee) (frame_at frames callee).saved (frame_at frames callee).homes
   its_right = fit.homes callee in_range.function_in_range
 

@@ -153,7 +153,8 @@ module _ (program : Program) (well : IsWellFormed program) (frames : List Frame)
   abbrev last : Words
   last = after_r (arrivals frame) e.r final
 
-  -- After the lines that save registers and load parameters at a function's entry, the registers are exactly those of `last`.
+  -- The saves at a function's entry change no register. So the registers after all lines of the entry are those after the
+  -- loads of parameters alone.
   registers_same : after_r (saving_code frame) e.r e.w ≡ last
   registers_same =
       after_r-append (way_code frame) (saves frame ++ arrivals frame) e.r e.w

@@ -307,7 +307,7 @@ module _ (program : Program) (well : IsWellFormed program) (frames : List Frame)
       abbrev contents : Words
       contents = record_words (r HANDLERS) (r FRAME) (addresses (here + 2 + 1)) (c.active.slots (first + 3))
 
-      -- The last word of the handler's record is the unchanged word of its slot.
+      -- The slot of the last word of a handler's record, which opening the handler leaves unchanged, contains a machine word.
       last_word : IsWord (c.active.slots (first + 3))
       last_word =
           subst IsWord

@@ -118,7 +118,7 @@ module _ (program : Program) (well : IsWellFormed program) (frames : List Frame)
       ])
 
   -- If a move of several words has no machine code and writes only slots that are not live, the machine's state stays
-  -- unchanged. It then also matches the plain program's state after the move.
+  -- unchanged. The unchanged state of the machine then also matches the plain program's state after the move.
   passes_unused_words : (destination source count : ℕ) → IsAt (plain.MoveWords destination source count) → is_idle (frame_at frames c.active.function) c.active.next (plain.MoveWords destination source count) ≡ true
       → ((slot : ℕ) → is_among destination count slot ≡ true → IsUnused program (routine_at program c.active.function) (frame_at frames c.active.function).homes c.active.next slot)
       → Passes
@@ -204,7 +204,8 @@ module _ (program : Program) (well : IsWellFormed program) (frames : List Frame)
   never_holds comparison (operands.Slot left) other never = absurd never
   never_holds comparison (operands.Word left) (operands.Slot other) never = absurd never
 
-  -- An instruction that the frame marks as needing no machine code is of a form for which this is possible, and no lines follow it.
+  -- If the frame marks an instruction as needing no machine code, the instruction's form permits this. An instruction so marked has
+  -- no MIPS lines that are executed after a call returns.
   idle_kind : (index : ℕ) (i : Instruction) → instruction_at program (record { function = c.active.function; index = index }) ≡ Some i → idle_at (frame_at frames c.active.function).idle index ≡ true
       → (is_idle (frame_at frames c.active.function) index i ≡ true) × (after_count program frames c.active.function i ≡ 0)
   idle_kind index i at_i is = go i (fit.idle c.active.function ready.standing.known index i at_i is)

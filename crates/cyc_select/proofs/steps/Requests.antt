@@ -142,7 +142,7 @@ regions_reported (requests.Allocate destination handle words) store slots q m ch
     before ∙ ap (λ (n : ℕ). n % 2 ^ 32) (sym (lexical_made store (operand_word slots handle) (services.block_of (operand_word slots handle) (operand_word slots words) choice)))
 regions_reported (requests.Free address) store slots q m choice sound free first before = before
 
--- A store request's answer changes only the two result registers.
+-- The result of a request to the store (the heap of regions) changes only the two result registers.
 answered-other : (a : Answer) (q : Words) (n : ℕ) → n ≢ 2 → n ≢ 3 → answered_r a q n ≡ q n
 answered-other (services.Refused why) q n first second = refl
 answered-other services.Done q n first second = refl

@@ -367,7 +367,7 @@ module _ (program : Program) (well : IsWellFormed program) (frames : List Frame)
   loaded_length : length (ordinary (loaded frame value results)) ≡ results + frame.saved + 1
   loaded_length = length_ordinary (loaded frame value results) ∙ length_loaded frame value results few_results
 
-  -- Returns the last lines of a return, from those that load the results on, with or without restored registers.
+  -- Returns the last lines of a return: they load the results, restore the saved registers, if any, pop the frame and jump to the caller.
   abbrev tail : List Line
   tail = ordinary (loaded frame value results) ++ lines.Return ∷ []
 

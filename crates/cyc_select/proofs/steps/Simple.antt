@@ -120,7 +120,8 @@ module _ (program : Program) (well : IsWellFormed program) (frames : List Frame)
   abbrev IsFree : Instruction → Type 0
   IsFree i = calls_nothing i ≡ true
 
-  -- `IsCounted` says that an instruction is not left out: as many MIPS lines are emitted for it as its code has.
+  -- `IsCounted` says that the MIPS lines counted for an instruction are all lines of its code, not 0 as for an
+  -- instruction without machine code.
   abbrev pub IsCounted : Instruction → Type 0
   IsCounted i = count_of program frames c.active.function c.active.next i ≡ body_count program frames c.active.function i
 

@@ -96,7 +96,8 @@ module _ (globals stack : ℕ) where
   IsHeld frame base w r slots (operands.Slot number) = HeldIn (value_register frame number) frame base w r slots number
   IsHeld frame base w r slots (operands.Word word) = IsWord word
 
-  -- The module assumes that the registers `q` and the memory `m` have the same frame and the same registers of slots as `r` and `w`.
+  -- The registers `q` and the memory `m` are assumed to have the same frame and the same registers of slots as the registers `r` and
+  -- the memory `w`.
   module _ (frame : Frame) (base : ℕ) (w : Contents) (r slots : Words) (q : Words) (m : Contents) (zero : q ZERO ≡ 0) (same : q FRAME ≡ base) (memory : m ≡ w) (values : ValuesSame q r) where
     memory_puts : (target number : ℕ) → IsWritable (target % 32) → IsCell globals stack (memory_address base (slot_offset frame number)) → w.words (memory_address base (slot_offset frame number)) ≡ slots number
         → Puts globals stack (load target (slot_offset frame number) ∷ []) q m (target % 32) (target % 32) (slots number)
@@ -288,7 +289,8 @@ module _ (globals stack : ℕ) where
     pub keeps : Keeps globals stack is q m (target % 32)
     pub result : after_r is q m (target % 32) ≡ word
 
-  -- The module assumes that the registers `q` and the memory `m` have the same frame and the same registers of slots as `r` and `w`.
+  -- The registers `q` and the memory `m` are assumed to have the same frame and the same registers of slots as the registers `r` and
+  -- the memory `w`.
   module _ (frame : Frame) (base : ℕ) (w : Contents) (r slots : Words) (q : Words) (m : Contents) (zero : q ZERO ≡ 0) (same : q FRAME ≡ base) (memory : m ≡ w) (values : ValuesSame q r) where
     pub operands_put : (but : ℕ) (left right : Operand) → IsHeld frame base w r slots left → IsHeld frame base w r slots right
         → AreLoaded (operands_code frame left right) q m but (operand_register frame FIRST left) (operand_register frame SECOND right) (operand_word slots left) (operand_word slots right)

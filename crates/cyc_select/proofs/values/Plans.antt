@@ -504,8 +504,8 @@ module _ (P : Operand → Type 0) (zero : P (operands.Word 0)) (Q : Plan → Typ
     all_operator binary.Greater left right fine l r = all_comparison comparisons.Greater left right l r
     all_operator binary.GreaterOrEqual left right fine l r = all_comparison comparisons.GreaterOrEqual left right l r
 
-    -- Exchanging the operands of a commutative operator, which is never a division, keeps the property of the plan
-    -- (machine operations) that computes this operator.
+    -- If the operands of a commutative operator, which is never a division, satisfy `P`, the plan (machine
+    -- operations) for the exchanged operands satisfies `Q`.
     all_swapped : (operator : BinaryOperator) (left right : Operand) → is_swapped operator left ≡ true → P left → P right → Q (operator_plan operator right left)
     all_swapped binary.Add left right is l r = all_operator binary.Add right left refl r l
     all_swapped binary.Multiply left right is l r = all_operator binary.Multiply right left refl r l

@@ -67,8 +67,8 @@ most_lines = START_LINES + MOST_SIZE
 abbrev pub AreFew : Program → Type 0
 AreFew program = (k : ℕ) → (routine_at program k).results ≤ GREATEST_VALUE
 
--- Returns the line numbers at which the code of the given instructions of a function begins. The first of these instructions has the
--- index `index` and begins at line `here`.
+-- Returns the line numbers at which the code of the given instructions of a function begins. The first of the given instructions has
+-- the index `index` and begins at line `here`.
 abbrev pub instruction_lines : Program → List Frame → (function index here : ℕ) → List Instruction → List ℕ
 instruction_lines program frames function index here [] = []
 instruction_lines program frames function index here (i ∷ code) =

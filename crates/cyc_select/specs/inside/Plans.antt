@@ -35,7 +35,8 @@ abbrev pub arithmetic_plan : ArithmeticOp → (left right : Operand) → Outcome
 arithmetic_plan op left right outcome =
     record { operation = operations.Arithmetic op; left = left; right = right; outcome = outcome }
 
--- Returns a plan whose instruction has an immediate operand. The right operand of this plan is the word 0, which needs no machine code.
+-- Returns a plan (machine operation and operands) whose instruction has an immediate operand. The right operand of a plan with an
+-- immediate is the word 0, which needs no machine code.
 abbrev pub immediate_plan : ImmediateOp → Operand → (half : ℕ) → Outcome → Plan
 immediate_plan op left half outcome =
     record { operation = operations.Immediate op half; left = left; right = operands.Word 0; outcome = outcome }

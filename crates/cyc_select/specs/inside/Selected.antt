@@ -18,8 +18,8 @@ abbrev pub words_at : Labelled → ℕ → ℕ
 words_at code number = words_of (slice_index_or code.lines number lines.Return)
 
 -- Each MIPS line is a line of the start code, or is assigned to one instruction of the plain program. A run of the code follows a run of
--- the program and visits the lines of an instruction once for each of its steps. (An instruction that needs no machine code may have no
--- lines.)
+-- the program and visits an instruction's lines once for each step that executes the instruction. (An instruction that needs no machine
+-- code may have no lines.)
 pub record IsCodeOf (program : Program) (code : Labelled) : Type 0 where
   pub formed : IsFormed code
   pub before : List ℕ

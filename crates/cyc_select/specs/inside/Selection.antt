@@ -1,5 +1,5 @@
--- The code selected for a plain program, as a function. The choice of this code is this project's own; its meaning is stated and proved
--- separately (`Selected`).
+-- The code selected for a plain program, as a function. The choice of the selected code is this project's own; the meaning of the code
+-- is stated and proved separately (`Selected`).
 --
 -- Stack frames grow downward from the end of the stack. The call that starts the program has return address 0. The module `constants`
 -- assigns the registers.

@@ -86,8 +86,8 @@ reloads_from frame slot (h ∷ hs) = reload frame h slot ++ reloads_from frame (
 abbrev pub reloads : Frame → List Instr
 reloads frame = reloads_from frame 0 frame.homes
 
--- A base register holds the address in the middle of the first globals, which signed offsets reach. The address of any other global is
--- split, and its upper half is loaded first.
+-- A base register holds the address in the middle of the first globals, which signed offsets reach. The address of a global that no
+-- offset from the base register reaches is split, and its upper half is loaded first.
 abbrev pub global_address : ℕ → ℕ
 global_address global = data_base + 4 * global
 

@@ -1,7 +1,8 @@
 -- This file shows why the class of programs that the soundness proof covers must require that no struct field is a key: the judgement on
 -- typed trees does not require it. In the example tree, a struct has a key as a field; the judgement on typed trees and the flow rules
--- accept the tree. The key is read twice and so used twice: a run of the tree accesses freed memory. The typing rules derive no such tree
--- (`typed_trees_are_formed` of `cyc_types`), since they reject a key field at the declaration of its struct.
+-- accept the tree. In the example tree, the key is read twice and so used twice: a run of the tree accesses freed memory. The typing
+-- rules derive no tree with a key field (`typed_trees_are_formed` of `cyc_types`), since they reject a key field at the declaration of
+-- its struct.
 use Rattle.std.proofs.Common.{◌≡◌, ℕ, suc, ◌<◌, true, [], ◌∷◌, Some, Ok, inl, refl, arith}
 use Rattle.cyc_words.proofs.Numbers.{zero_below}
 use Rattle.cyc_syntax.specs.declared.tree.PointerKind.TheVariants as marks

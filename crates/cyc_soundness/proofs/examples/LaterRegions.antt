@@ -1,7 +1,7 @@
--- This file shows why the class of programs that the soundness proof covers restricts the regions in the types of locals: the judgement
--- on typed trees does not restrict them. In the example tree, the type of a local mentions a region that is opened later. The judgement
--- on typed trees and the flow rules accept the example, and a run of it accesses freed memory. The typing rules derive no such tree,
--- since a region name is known only after its declaration (`typed_trees_are_formed` of `cyc_types`).
+-- This file shows why the class of programs that the soundness proof covers restricts the regions in the types of locals: the judgement on
+-- typed trees does not restrict them. In the example tree, the type of a local contains a region that is opened later. The judgement on
+-- typed trees and the flow rules accept the example tree, and a run of it accesses freed memory. The typing rules derive no tree in which a
+-- local's type contains a later region (`typed_trees_are_formed` of `cyc_types`): a region name is known only after its declaration.
 use Rattle.std.proofs.Common.{◌≡◌, ◌<◌, [], ◌∷◌, Some, Ok, inl, inr, refl, arith}
 use Rattle.cyc_words.proofs.Numbers.{zero_below}
 use Rattle.cyc_syntax.specs.declared.tree.PointerKind.TheVariants as marks

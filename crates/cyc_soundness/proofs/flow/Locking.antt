@@ -95,7 +95,7 @@ reached_meet_right Unreached g reached = reached
 reached_meet_right (Reached as') Unreached reached = refl
 reached_meet_right (Reached as') (Reached bs) reached = refl
 
--- If a statement never ends, then the code after the statement is unreachable.
+-- If control never reaches the end of a statement, then the flow rules record that the code after the statement is unreachable.
 mutual
   never_statement : (w : ℕ → Bool) (c : Around) (s : Statement) (a b : Known) → IsFresh w s → Derives (rule_statement c s a) b → may_end s ≡ false → is_reached b.now ≡ false
   never_statement w c (Block r js) a b fresh (l, d, (u, same)) e = subst (λ (z : Known). is_reached z.now ≡ false) (sym same) (each_reached Full (locks_of js) l.now ∙ never_items w c js a l fresh d e)

@@ -1,5 +1,6 @@
--- This file defines when a flow state matches a guard (sets of locked, relied-on and peeked locals). Exactly the guard's locked locals are
--- locked, and all locals on which it relies hold values. In unreachable code (`never`), nothing more is known.
+-- This file defines when a flow state matches a guard (sets of locked, relied-on and peeked locals). In a matching flow state, exactly the
+-- guard's locked locals are locked, and all locals on which the guard relies hold values. In unreachable code (`never`), nothing more is
+-- known about locals.
 use Rattle.std.proofs.Common.{◌≡◌, ◌⊎◌, ℕ, Bool, true, false, cond, not, ◌||◌, nat_eq, List, [], ◌∷◌, ◌++◌, Option, Some, None, get_or, slice_set, inl, inr, refl, sym, ap, subst, ◌∙◌}
 use Rattle.std.proofs.lemmas.Bool.{not-true, not_from_false}
 use Rattle.cyc_words.proofs.Booleans.{or_false_right, or_true_right, or_assoc, false_from_false}

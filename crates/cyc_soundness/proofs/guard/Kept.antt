@@ -1,5 +1,6 @@
--- This file proves that the derivations of the flow rules satisfy the guarded form of these rules. Each flow state is read as the set of
--- locals that hold values, and can be chosen in the guarded form.
+-- This file proves that the derivations of the flow rules satisfy the guarded form of these rules. From a flow state of the rules, the
+-- proofs take the set of locals that hold values. The guarded form lets a proof choose its flow states, which are sets of locals that
+-- hold values.
 use Rattle.std.proofs.Common.{◌≡◌, ℕ, Bool, true, false, cond, not, ◌&&◌, ◌||◌, nat_eq, List, [], ◌∷◌, ◌++◌, Option, Some, None, get_or, refl, sym, ap, subst, ◌∙◌}
 use Rattle.std.proofs.lemmas.Bool.{and_parts, not-true}
 use Rattle.cyc_words.proofs.Booleans.{or_false_right, or_true_right}

@@ -108,7 +108,7 @@ each_enough (a ∷ as') [] h n k = absurd (cc)
 each_enough (a ∷ as') (b ∷ bs) h zero k = full_enough a b (and_parts (is_as_full a b) (are_as_full as' bs) h).0 k
 each_enough (a ∷ as') (b ∷ bs) h (suc n) k = each_enough as' bs (and_parts (is_as_full a b) (are_as_full as' bs) h).1 n k
 
--- If the flow rules' test says that one flow state is at least another, then it has at least the other's facts about locals.
+-- If the flow rules' test says that a flow state is at least a second one, then it has all facts about locals of the second one.
 pub tested : (f g : State) → is_at_least f g ≡ true → IsAtLeast (held_of f) (held_of g)
 tested Unreached g h = tt
 tested (Reached as') Unreached h = absurd (cc)

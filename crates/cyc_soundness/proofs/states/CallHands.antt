@@ -40,7 +40,7 @@ moment_globals p g d j globals = globals_grown g (record g { depth = d; loans = 
 pub hands_globals : (p : Program) (g : Typing) (own : Thing → Holder) (here : ℕ → Standing) → KnowsProgram g p → KnowsProgram (record g { own = own; here = here }) p
 hands_globals p g own here globals = globals_grown g (record g { own = own; here = here }) (same_grows g own here) p (λ n ls. refl) globals
 
--- a resource lent by an earlier loan stays lent when more loans begin
+-- a resource (key or unique pointer) lent by an earlier loan stays lent when more loans begin
 lent_more : (n : ℕ) (h : Holder) → is_lent_by n h ≡ true → is_lent_by (suc n) h ≡ true
 lent_more n Nobody e = e
 lent_more n (Hand i) e = e
@@ -98,7 +98,7 @@ pub variables_more : (g : Typing) (bs : List InScope) → AreVariables g bs → 
 variables_more g [] are = tt
 variables_more g (b ∷ bs) (is, are) = (variable_more g b is, variables_more g bs are)
 
--- The resource that was lent last is recorded as lent by the newest loan.
+-- The resource (key or unique pointer) that was lent last is recorded as lent by the newest loan.
 pub lent_last : (n o : ℕ) → is_lent_by (suc n) (Lent n o) ≡ true
 lent_last n o = lt-ltb n (suc n) (let less : n < suc n = omega arith in less)
 

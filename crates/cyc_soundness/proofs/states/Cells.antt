@@ -56,7 +56,7 @@ open_object g regions object (OfRegion number around lent) common opens = opens
 open_object g regions object (Kept a) common opens = opens
 open_object g regions object Owned common opens = absurd common
 
--- A resource (key or unique pointer) that a peek has read from a local, or that an operand holds, has a holder that owns it.
+-- A resource (key or unique pointer) has an owner if an operand holds it, or if a peek (a read without a move) has read it from a local.
 pub part_had : (g : Typing) (i : ℕ) (peek : Option ℕ) (o : Option Thing) → ClaimsPart g i peek o → IsHad g o
 part_had g i None None is = tt
 part_had g i (Some n) None is = tt
@@ -261,7 +261,8 @@ module _ (p : Program) (g : Typing) (x : Exits) (bs : List InScope) (e : Environ
       let c = content_of kind number offset t y at cells opens filled same in
       subst (λ s. IsWell p s) (sym (c.loads k e)) (running p g x bs e w typed globals bound variables (Given (record { kind = kind; value = c.value })) k live (r, f, holds, fits c.value c.has, comes c, stack))
 
-  -- Writing a cell of a known object yields a well-typed run state; the facts about objects in its typing have grown.
+  -- Writing a cell of an object that the typing lists yields a well-typed run state; the facts about objects in the
+  -- typing of the run state have grown.
   module _ (v : Operand) (focus : Focus) (k : List Entry) (number offset m : ℕ) (t : RunTy) (y : ObjectType) (here : ℕ → Standing) where
     abbrev pub written_typing : Typing
     written_typing = record (with_filled g number (risen offset m)) { here = here }
@@ -309,7 +310,8 @@ module _ (p : Program) (g : Typing) (x : Exits) (bs : List InScope) (e : Environ
 
 -- ---- storing an operand's value
 
--- If the relation `Changed` holds from a typing whose record field `here` is restated with its own value, then it holds from that typing.
+-- Let a typing be rebuilt with its own value in the record field `here`. If the relation `Changed` holds between the rebuilt typing and a
+-- second typing, then it holds between the original typing and the second one.
 changed_from : (old : Holder) (g h : Typing) → Changed old (record g { here = g.here }) h → Changed old g h
 changed_from old g h changed = record {
   grows = record { objects = changed.grows.objects; filled = changed.grows.filled; fields = changed.grows.fields; kept = changed.grows.kept };
@@ -358,7 +360,7 @@ module _ (p : Program) (g : Typing) (x : Exits) (bs : List InScope) (e : Environ
         (λ object j hidden apart kept. before object j hidden apart kept) (λ j u found apart kept. beside j u found apart kept) free lasts (λ kept. (given_now g.own thing its, claims.1))
         (λ more now. goes (changed_after (Hand i) (record g { here = here }) (record stored_given { here = here }) stored_typing (giving_changed (record g { here = here }) thing (Hand i) its claims.0) more) now)
 
-  -- A value is stored, and no variable gains or loses its value.
+  -- A value is stored in a cell of an object, and no variable is recorded as gaining or losing its value.
   pub stores_on : (v : Operand) (focus : Focus) (k : List Entry) (number offset m i : ℕ) (t : RunTy) (y : ObjectType) → LiveIn k bs → slice_get g.objects number ≡ Some y → slice_get y.cells offset ≡ Some t → IsOpenObject g w.regions number y.life
       → slice_get g.filled number ≡ Some m → offset ≤ m → y.is_hidden ≡ false → IsResult g (Value t) v → Claims g.own (Hand i) t v.value
       → (Changed (Hand i) g (stored_typing v focus k number offset m i t y g.here) → IsFilled (stored_typing v focus k number offset m i t y g.here) number (suc offset) → IsFocus p (stored_typing v focus k number offset m i t y g.here) x bs focus k)

@@ -1,5 +1,5 @@
 -- This file is about resources (keys, and pointers to unique objects) that change holders (the operand, cell or loan that owns them).
--- All resources that the step does not move keep their holders, so the well-typed parts of the run state stay well-typed.
+-- All resources that a step does not move keep their holders, so the well-typed parts of the run state stay well-typed.
 use Rattle.std.proofs.Common.{◌≡◌, ◌≢◌, ℕ, Bool, true, false, List, [], ◌∷◌, set, Option, Some, None, slice_get, refl, sym, ap, subst, ◌∙◌, inl, inr, eqb}
 use Rattle.std.specs.Prelude.{if◌then◌else◌, ◌==◌}
 use Rattle.std.proofs.lemmas.Bool.{eqb-true, eq-eqb, false_from_ne_true}
@@ -28,7 +28,7 @@ the_same (PointerTo m) (PointerTo n) e = ap (λ i. PointerTo i) (eqb-true m n e)
 the_same (KeyOf m) (PointerTo n) e = absurd (let k : false ≡ true = e in cc)
 the_same (PointerTo m) (KeyOf n) e = absurd (let k : false ≡ true = e in cc)
 
--- After a transfer, the new holder (operand, cell or loan) owns the transferred resource.
+-- After a transfer of a resource (key or unique pointer), the new holder (operand, cell or loan) owns the transferred resource.
 pub given_now : (own : Thing → Holder) (o : Option Thing) (h : Holder) → Owns (given o h own) h o
 given_now own None h = tt
 given_now own (Some a) h = ap (λ (z : Bool). if z then h else own a) (thing_is_itself a)
@@ -37,7 +37,7 @@ by_test : {A : Type 0} (b : Bool) (x y z : A) → (b ≡ true → y ≡ z) → (
 by_test true x y z one two = one refl
 by_test false x y z one two = two refl
 
--- Every resource that is not transferred is still owned by the same operand, cell or loan.
+-- Every resource (key or unique pointer) that is not transferred is still owned by the same operand, cell or loan.
 pub given_other : (own : Thing → Holder) (o : Option Thing) (old new : Holder) (a : Thing) → Owns own old o → own a ≢ old → given o new own a ≡ own a
 given_other own None old new a has apart = refl
 given_other own (Some b) old new a has apart = by_test (same_thing a b) (own a) new (own a) (λ e. absurd (apart (ap own (the_same a b e) ∙ has))) (λ e. refl)
@@ -58,7 +58,7 @@ given_too own o None h has = tt
 given_too own None (Some b) h has = has
 given_too own (Some a) (Some b) h has = by_test (same_thing b a) (own b) h h (λ e. refl) (λ e. has)
 
--- Resources that are owned by different holders (operands, cells or loans) are different.
+-- Resources (keys and unique pointers) that are owned by different holders (operands, cells or loans) are different.
 pub given_apart : (own now : Thing → Holder) (o q : Option Thing) (h k new : Holder) → Owns own h o → Owns own k q → h ≢ k → Owns now k o → Owns (given q new now) k o
 given_apart own now None q h k new has its apart is = tt
 given_apart own now (Some a) None h k new has its apart is = is
@@ -125,8 +125,8 @@ at_some m n e = let k : At m n ≡ Nobody = e in absurd (cc)
 
 -- ---- the change relation
 
--- All resources of one holder (operand, cell or loan) go to another holder. Nothing else changes, except that facts about objects are
--- added and that variables receive values, unless they have lent theirs.
+-- All resources (keys and unique pointers) of one holder (operand, cell or loan) go to another holder. Nothing else changes, except
+-- that facts about objects are added, and that variables receive values if they have not lent their own.
 pub record Changed (old : Holder) (g h : Typing) : Type 0 where
   pub grows : Grows g h
   pub own : (a : Thing) → g.own a ≢ old → h.own a ≡ g.own a
@@ -169,7 +169,7 @@ same_grows g own here = record { objects = λ n u is. is; filled = λ n count is
 pub giving_changed : (g : Typing) (o : Option Thing) (old new : Holder) → Owns g.own old o → Changed old g (giving g o new)
 giving_changed g o old new has = record { grows = same_grows g (given o new g.own) g.here; own = λ a apart. given_other g.own o old new a has apart; here = λ object is apart. is; away = λ object j hides is apart other. is; pending = refl; depth = refl; loans = refl }
 
--- A resource moves out of a variable, or into a variable.
+-- A resource (key or unique pointer) moves out of a variable, or into a variable.
 pub handing_changed : (g : Typing) (o : Option Thing) (old new : Holder) (object : ℕ) (b : Standing) → Owns g.own old o → (b ≡ Here → (j : ℕ) → g.here object ≡ Away j → Lent j object ≡ old) → ((b ≡ Here → ⊥) → old ≡ At object 0)
     → Changed old g (handing g o new object b)
 handing_changed g o old new object b has back from = record {
@@ -202,7 +202,8 @@ handing_changed g o old new object b has back from = record {
 pub gone_changed : (g : Typing) (o : Option Thing) (new : Holder) (object : ℕ) → Owns g.own (At object 0) o → Changed (At object 0) g (handing g o new object Gone)
 gone_changed g o new object has = handing_changed g o (At object 0) new object Gone has (λ e. let k : Gone ≡ Here = e in absurd (cc)) (λ other. refl)
 
--- A variable receives a value. This affects neither loans of other resources nor a variable to which pointers may point.
+-- A variable receives a value. Giving a value to a variable affects neither loans of other resources nor a variable to
+-- which pointers may point.
 pub marked_changed : (g : Typing) (object : ℕ) → Changed (At object 0) g (record g { here = marked object Here g.here })
 marked_changed g object = record {
   grows = same_grows g g.own (marked object Here g.here);

@@ -1,5 +1,5 @@
--- This file proves that a stack stays well-typed when a resource (key or unique pointer) changes its owner,
--- if no stack entry claims this resource. A stack entry that awaits no value is only dropped.
+-- This file proves that a stack stays well-typed when a resource (key or unique pointer) changes its owner, if no stack entry claims this
+-- resource. A stack entry that waits for no value is only removed from the stack.
 use Rattle.std.proofs.Common.{◌≡◌, ◌≢◌, inl, inr, ℕ, ◌≤◌, ◌<◌, ◌+◌, Bool, true, false, List, [], ◌∷◌, Option, Some, None, slice_get, refl, sym, ap, subst, ◌∙◌, arith}
 use Rattle.std.specs.Prelude.{if◌then◌else◌, suc, length, get_or}
 use Rattle.std.proofs.lemmas.Option.{same_Some}
@@ -47,7 +47,8 @@ looked_unspared (Some m) q n e spared =
     let one : is_full (get_or (only m) n Vacant) ≡ false = spared.0 in
     let z : true ≡ false = sym (ap is_full (ap (λ i. get_or (only i) n Vacant) same ∙ only_full n)) ∙ one in absurd (cc)
 
--- An enclosing flow state relies on a local that was read early (peeked at) and whose read value is not yet used.
+-- Let a stack entry store a value that was read early from a local (peeked at) and is not yet used. Then a flow
+-- state on which the stack relies requires a local that was peeked at to hold its value.
 unspared : (a : Awaiting) (q r : Relied) (n : ℕ) → held_peek a ≡ Some n → IsSpared (relied_by (part a) q r) n → ⊥
 unspared (ApplyPointer peek operator left) q r n e spared = looked_unspared peek r n e spared
 unspared (StoreCell peek place) q r n e spared = looked_unspared peek r n e spared

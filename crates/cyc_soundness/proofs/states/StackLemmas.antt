@@ -51,8 +51,8 @@ relied_if true q = q
 abbrev IsLoose : (empties : Bool) → Exits → Typing → List Entry → (object : ℕ) → Type 0
 IsLoose empties x g k object = (d n : ℕ) × IsSlot g d n object × (((d ≡ g.depth) × IsSpared (relied_at (relied_if empties x.relied) k) n) ⊎ (g.depth < d))
 
--- Says that no entry of this stack claims a resource that this holder owns. The holder of the resource is a variable that is emptied, or
--- a cell that is refilled at once and to which pointers may point.
+-- Says that no entry of this stack claims a resource (key or unique pointer) that this operand, cell or loan owns. An owning cell is the
+-- variable of an emptied local, or a cell that is refilled at once and to which pointers may point.
 abbrev pub IsAboveBy : (empties : Bool) → Exits → Typing → List Entry → Holder → Type 0
 IsAboveBy empties x g k Nobody = Unit {0}
 IsAboveBy empties x g k (Hand i) = operands_in k ≤ i
@@ -112,7 +112,7 @@ variable_other x g k n object (At other (suc i)) above slot relied = λ e. (let 
 variable_other x g k n object (At other zero) (inl loose) slot relied = loose_other true x g k n object other loose slot relied
 variable_other x g k n object (At other zero) (inr (filling, shown)) slot relied = let z : true ≡ false = filling in absurd (cc)
 
--- A cell to which pointers point differs from a variable that a peek has read.
+-- A cell to which pointers point differs from a variable whose value a peek (a read without a move) has read.
 hiding_other : (g : Typing) (object other : ℕ) → IsHiding g object true → IsHiding g other false → At object 0 ≢ At other 0
 hiding_other g object other (y, there, hidden) (z, stands, shown) e =
     let same : y ≡ z = same_Some y z (sym there ∙ ap (λ n. slice_get g.objects n) (at_same object 0 other 0 e).0 ∙ stands) in

@@ -311,8 +311,8 @@ around_heap n ns us e = ap around_of e
     around_of (OfRegion n ns us) = ns
     around_of l = []
 
--- A lifetime is open if all resources lent at its beginning are still lent. If a lifetime outlasts
--- an open lifetime that is not that of a unique object, then it is open.
+-- A lifetime is open if all resources lent at its beginning are still lent. If one lifetime outlasts an open lifetime that is not that of a
+-- unique object, then the outlasting lifetime is open too.
 pub open_outlasting : (g : Typing) (l m : Life) → Outlasts l m → IsCommonLife m → IsOpenIn g m → IsOpenIn g l
 open_outlasting g l m (alike _) common opens = opens
 open_outlasting g l m (for_ever _) common opens = λ r e. absurd (let k : false ≡ true = e in cc)

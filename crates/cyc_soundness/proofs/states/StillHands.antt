@@ -57,8 +57,8 @@ module _ (g h : Typing) (stays : Stays g h) where
 
 -- ---- the world is unchanged
 
--- A resource moves to another holder (operand, cell or loan). Each cell owned the resource of its own value before, and the values
--- of different cells represent different resources.
+-- A resource moves to another holder (operand, cell or loan). Before the resource moves, each cell owns the resource that its own
+-- value represents, and the values of different cells represent different resources.
 pub hands_typed : (g : Typing) (o : Option Thing) (old new : Holder) (here : ℕ → Standing) (regions : List Region) (objects : List Object) → Owns g.own old o → IsHeld old
     → ((object i : ℕ) (t : ObjectType) (x : Object) → slice_get g.objects object ≡ Some t → slice_get objects object ≡ Some x → IsKept (record g { own = given o new g.own; here = here }) object i t.is_hidden
     → (IsKept g object i t.is_hidden × (At object i ≢ old)) ⊎ ((u : RunTy) (c : Cell) (v : values.Value) → slice_get t.cells i ≡ Some u → slice_get x.cells i ≡ Some c → c.content ≡ Some v → Claims (given o new g.own) (At object i) u v))
@@ -123,7 +123,8 @@ module _ (g : Typing) (o : Option Thing) (object : ℕ) (new : Holder) (y : Obje
         | inr apart ↦ inl (marked_before object (Away j) g.here n (Away i) apart now, lent_not_at i n object 0)
       ]
 
--- A second resource that a lending variable owned is, after the loan received the first one, owned by the variable or by the loan.
+-- Let a lending variable own two resources (keys or unique pointers). After the loan received the first one, the second one is
+-- owned by the variable or by the loan.
 pub also_lent : (own : Thing → Holder) (o also : Option Thing) (old new : Holder) → Owns own old also → Owns (given o new own) old also ⊎ Owns (given o new own) new also
 also_lent own o None old new has = inl tt
 also_lent own None (Some b) old new has = inl has
@@ -161,7 +162,7 @@ also_typed g o object j y regions objects there hidden lent (inr has) typed =
       | inr apart ↦ inl (now, λ e. apart (lent_same i n j object e).1)
     ]
 
--- No resource except the two that the loan receives changes its owner.
+-- If a loan receives two resources (keys or unique pointers), then no other resource changes its owner.
 pub also_changed : (old new : Holder) (g h : Typing) (o : Option Thing) → Owns g.own old o → Changed old g h → Changed old g (giving h o new)
 also_changed old new g h o has changed = record {
   grows = record { objects = changed.grows.objects; filled = changed.grows.filled; fields = changed.grows.fields; kept = changed.grows.kept };

@@ -272,7 +272,7 @@ live_object g w number x y typed there stands owner opens = go x.life refl y.own
         let owner_is : o ≡ Unique true = sym f ∙ ap (λ (z : Object). z.owner) (sym same) ∙ live in
         ap (λ z. is_live w z) owner_is
 
--- The object that has the given number, and its cell of the given type.
+-- The object that the given number identifies, and its cell of the given type.
 pub record HasCell (g : Typing) (w : World) (number offset : ℕ) (x : ObjectType) (t : RunTy) : Type 0 where
   pub object : Object
   pub filled : ℕ

@@ -267,14 +267,15 @@ module _ (p : Program) (g : Typing) (x : Exits) (bs : List InScope) (e : Environ
   gives_by k kind t f (Raises tag) live holds same fits comes stack = on (Throwing tag 0) k live (Val (Value t) f, stack)
   gives_by k kind t f Misfits live holds same fits comes stack = absurd fits
 
-  -- The result is a pointer into an object. The pointer to this object was read from a local by a peek, or an operand on the stack owns it.
+  -- The computed result that the step passes to the stack is a pointer into an object. The pointer to this object was read from a local by
+  -- a peek (without a move), or an operand on the stack owns it.
   gives_into : (k : List Entry) (peek : Option ℕ) (kind : Kind) (t : RunTy) (f : flow.State) (r : Result) → LiveIn k bs → Holds g f bs → kind ≡ kind_at t → Fits g t r → ((v : values.Value) → r ≡ Gives v → ClaimsPart g (awaited.operands_in k) peek (thing_of t v))
       → IsStack p g x bs (Val (lives.Into peek t) f) k → IsWell p (computed kind r k e w)
   gives_into k peek kind t f (Gives v) live holds same fits comes stack = on (Given (record { kind = kind; value = v })) k live (lives.Into peek t, f, holds, (same, fits), comes v refl, stack)
   gives_into k peek kind t f (Raises tag) live holds same fits comes stack = on (Throwing tag 0) k live (Val (lives.Into peek t) f, stack)
   gives_into k peek kind t f Misfits live holds same fits comes stack = absurd fits
 
-  -- The result is a computed value that is not a linear resource.
+  -- The computed result that the step passes to the stack is a value that is not a linear resource (key or unique pointer).
   pub gives : (k : List Entry) (kind : Kind) (t : RunTy) (f : flow.State) (r : Result) → LiveIn k bs → Holds g f bs → IsPlain t → kind ≡ kind_at t → Fits g t r → IsStack p g x bs (Val (Value t) f) k
       → IsWell p (computed kind r k e w)
   gives k kind t f r live holds plain same fits stack = gives_by k kind t f r live holds same fits (λ v given. plain_claims g.own (Hand (awaited.operands_in k)) t v plain) stack

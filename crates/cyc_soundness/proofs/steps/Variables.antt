@@ -212,8 +212,8 @@ module _ (p : Program) (g : Typing) (x : Exits) (bs : List InScope) (e : Environ
         stack_changed p hand one h x bs (Val (read_value bs (assigned_type t)) (with_fullness Full f b.number)) k all (let le : awaited.operands_in k ≤ awaited.operands_in k = omega arith in le) stack_now,
       )))
     where
-      -- The stack stays well-typed when an assigned variable is marked as holding its value. If no pointer points to the variable, then no
-      -- flow state requires its value.
+      -- The stack stays well-typed when an assigned variable is marked as holding its value. If no pointer points to an assigned variable,
+      -- then no flow state requires the variable's value.
       marked_stack : (hidden : Bool) → b.is_hidden ≡ hidden → IsStack p (record g { here = marked b.object Here g.here }) x bs (Val (read_value bs (assigned_type t)) (with_fullness Full f b.number)) k
       marked_stack true hides = stack_changed p (At b.object 0) g (record g { here = marked b.object Here g.here }) x bs (Val (read_value bs (assigned_type t)) (with_fullness Full f b.number)) k (marked_changed g b.object)
           (g.depth, b.number, (local_type g.depth b, among_variable g among variables, refl), inl (refl, spared hides)) stack

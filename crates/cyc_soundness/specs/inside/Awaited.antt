@@ -177,7 +177,7 @@ IsPlainValue (Value t) = IsPlain t
 IsPlainValue r = Unit {0}
 
 -- Says that the operators that are still to be applied fit the left operand. If the operand is a peek (a read that does not move a local's
--- value), then the next operator must only look at it.
+-- value), then the next operator must not move the value.
 abbrev pub IsChained : Option ℕ → RunValue → Operations → Type 0
 IsChained peek r (ThenTest o a os) = Unit {0}
 IsChained peek r (ThenPointerPeek n o a os) = (peek ≡ Some n) ⊎ ((peek ≡ None) × IsPlainValue r)
@@ -197,8 +197,8 @@ abbrev pub IsByType : RunTy → Type 0
 IsByType (lives.Pointer k t l) = IsCommonLife l
 IsByType t = Unit {0}
 
--- The typing of a stack entry that waits for a value. It relates the types of the entry's stored operands, the type of the
--- awaited value, the flow state and the scope to what the entry passes on to the next stack entry.
+-- The typing of a stack entry that waits for a value. The typing relates the entry's stored operands, the awaited value,
+-- the flow state and the scope to what the entry passes on to the next stack entry.
 pub data Waits (p : Program) (x : Exits) (q : Relied) (bs : List InScope) : Awaiting → List RunTy → RunValue → flow.State → List InScope → Want → Type 0 where
   converts : {from to : Kind} {target : Option Kind} (c : Context) (v : ValueType) (t : Ty) (f : flow.State) → AgreesWith c.regions (lives_in bs) → KeepsUnique c.regions (lives_in bs) → Converts c v t → from ≡ kind_of_value v → to ≡ kind_of t → target ≡ target_of_value v
       → Waits p x q bs (ConvertTo from to target) [] (read_value bs v) f bs (Val (Value (read bs t)) f)

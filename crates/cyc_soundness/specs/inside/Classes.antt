@@ -87,10 +87,10 @@ Asked true A = A
 
 -- ---- the class
 
--- All forms of the language are in the class of programs that the proof covers, with one condition. The condition says that if a local
--- is consumed, lent, or assigned a value with a single owner, no enclosing catch clause requires that this local holds a value. At the
--- start of a function no catch clause encloses the code, and for the body of a `try` the condition is proved. For unreachable code,
--- the condition requires nothing.
+-- All forms of the language are in the class of programs that the proof covers, with one condition on catch clauses. The condition
+-- says that if a local is consumed, lent, or assigned a value with a single owner, no enclosing catch clause requires that this local
+-- holds a value. At the start of a function no catch clause encloses the code, and for the body of a `try` the condition on catch
+-- clauses is proved. For unreachable code, the condition on catch clauses requires nothing.
 abbrev mutual
   pub InExpression : Relied → Expression → Type 0
   InExpression q (Number n) = Unit {0}
@@ -154,8 +154,8 @@ abbrev pub InSide : Relied → Side → Type 0
 InSide q (VariableSide l t) = Unit {0}
 InSide q (CellSide d) = InPlace q d
 
--- Says that statements are in the class of programs that the soundness proof covers, where n is the number that the next region gets. The
--- types of the locals that these statements declare contain only regions declared before those locals.
+-- Says that statements are in the class of programs that the soundness proof covers, where n is the index that the next declared region
+-- gets. The types of the locals that these statements declare contain only regions declared before those locals.
 abbrev mutual
   pub InStatement : Relied → ℕ → Statement → Type 0
   InStatement q n (Block r js) = InItems q (suc n) js

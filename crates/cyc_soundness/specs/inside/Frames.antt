@@ -243,7 +243,7 @@ lending x n = record x { locks = x.locks ++ n ∷ []; relied = Reached (only n) 
 abbrev pub relying : Exits → flow.State → Exits
 relying x f = record x { relied = f ∷ x.relied }
 
--- Says that if this scope entry is the local with the given index, it holds a value, and its object has the given number.
+-- Says that if this scope entry is the local with the given index, it holds a value, and the given number identifies its object.
 abbrev pub IsFullAt : Typing → (number object : ℕ) → InScope → Type 0
 IsFullAt g n object (Variable b) = b.number ≡ n → IsFull g b.object × (b.object ≡ object)
 IsFullAt g n object b = Unit {0}
@@ -310,8 +310,8 @@ pub record IsContext (p : Program) (x : Exits) (bs : List InScope) (c : Context)
 abbrev pub lives_among : List Life → Lives
 lives_among ls = lives_of (λ n. slice_index_or ls n heap_life)
 
--- Says that the typing of the heap state agrees with the program. Its first objects are the program's globals, and its
--- structs have the cells of their fields.
+-- Says that the typing of the heap state agrees with the program. The first objects of the heap state are the
+-- program's globals, and the structs of the heap state have the cells of their fields.
 pub record KnowsProgram (g : Typing) (p : Program) : Type 0 where
   pub globals : (number : ℕ) (t : Ty) → slice_get (map (λ (v : GlobalVariable). v.of_type) p.globals) number ≡ Some t
       → (slice_get g.objects number ≡ Some (global_type (at as_heap t))) × IsFull g number × IsDeclarable 0 t

@@ -18,8 +18,8 @@ pub data Thing : Type 0 where
   PointerTo : (object : ℕ) → Thing
 
 -- The lifetime of an object: it lasts to the end of a region, or until the object is freed. The lifetime of a scoped region lists the
--- regions that were open around its scope, innermost first, and the resources that were lent when the scope began. All of these regions and
--- lent resources last at least as long as the region.
+-- regions that were open around its scope, innermost first, and the resources that were lent when the scope began. All regions and lent
+-- resources that a scoped region's lifetime lists last at least as long as the scoped region.
 pub data Life : Type 0 where
   OfRegion : (region : ℕ) → (around : List ℕ) → (lent : Thing → Bool) → Life
   -- The lifetime of a unique object: it lasts until the object is freed through its unique pointer.
@@ -90,8 +90,8 @@ lives_of m regions.Heap = heap_life
 lives_of m regions.Unique = Owned
 lives_of m (regions.Variable n) = m n
 
--- The map from regions to lifetimes that turns the type of a global into a run-time type. It maps each region
--- variable to the heap's lifetime; a global's type contains no region variable.
+-- The map from regions to lifetimes that turns the type of a global into a run-time type. The map sends each
+-- region variable to the heap's lifetime; a global's type contains no region variable.
 abbrev pub as_heap : Lives
 as_heap r = lives_of (λ n. heap_life) r
 

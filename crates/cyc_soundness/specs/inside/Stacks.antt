@@ -1,5 +1,5 @@
 -- This file defines the typing of run states. Each entry of the control stack is typed by the value for which it waits and the value
--- that it passes on. The scope is an index of this typing, from which an entry may drop the newest locals.
+-- that it passes on. The typing has the scope as a parameter; a stack entry may drop the newest locals from the scope.
 use Rattle.std.specs.Prelude.{◌≡◌, ℕ, zero, suc, ◌+◌, ◌≤◌, Bool, true, false, List, [], ◌∷◌, length, map, Option, Some, None, slice_get}
 use Rattle.cyc_syntax.specs.declared.tree.PointerKind.TheVariants as marks
 use Rattle.cyc_types.specs.declared.region.Region.{Region}
@@ -86,8 +86,8 @@ abbrev pub IsWhole : Typing → ObjectType → RunTy → Type 0
 IsWhole g y (lives.Struct n ls) = g.fields n ls ≡ Some y.cells
 IsWhole g y t = y.cells ≡ t ∷ []
 
--- An object under construction, whose first cells hold values. The remaining writes fill its other cells; after the last write, the
--- pointer to the object becomes the result.
+-- An object under construction, whose first cells hold values. The remaining writes fill the other cells of the object under
+-- construction; after the last write, the pointer to the object becomes the result.
 pub record IsMaking (g : Typing) (hand : ℕ) (writes : List Write) (v : Operand) (t : RunTy) (l : Life) : Type 0 where
   pub object : ℕ
   pub offset : ℕ
@@ -191,7 +191,7 @@ pub record IsRunning (p : Program) (focus : Focus) (k : List Entry) (e : Environ
   pub stands : IsFocus p typing exits locals focus k
 
 -- Says that the heap state, scope and stack of a run state are well-typed, so the state is neither dead (freed memory accessed) nor
--- wrong. This is the invariant of the soundness proof.
+-- wrong. The well-typedness of the run state is the invariant of the soundness proof.
 abbrev pub IsWell : Program → State → Type 0
 IsWell p (Running focus k e w) = IsRunning p focus k e w
 IsWell p (Ended ending output input) = Unit {0}

@@ -104,7 +104,8 @@ pub data IsEndOf (ms : List ℕ) : List ℕ → Type 0 where
   following : (n : ℕ) (ns : List ℕ) → IsEndOf ms ns → IsEndOf ms (n ∷ ns)
 
 -- Says that the first lifetime lasts at least as long as the second. The heap and the globals last for ever. A region that was open
--- when a scope began lasts to the scope's end, and so do the loans of that time. A unique pointer may point to any unique object.
+-- when a scope began lasts to the scope's end, and so does each loan that had begun before the scope. A unique pointer may point to
+-- any unique object.
 pub data Outlasts : Life → Life → Type 0 where
   alike : (l : Life) → Outlasts l l
   heap : (l : Life) → Outlasts heap_life l
@@ -124,7 +125,8 @@ abbrev pub IsPart : Typing → (object : ℕ) → ObjectType → RunTy → (offs
 IsPart g object x (Struct n ls) offset = (offset ≡ 0) × (g.fields n ls ≡ Some x.cells) × IsFilled g object (length x.cells)
 IsPart g object x t offset = (slice_get x.cells offset ≡ Some t) × IsFilled g object (suc offset)
 
--- The lifetime that a pointer's type states for the object: for a unique object, that of the object with this number, else unchanged.
+-- The lifetime of a pointer's target object, given the lifetime that the pointer's type states. A lifetime of unique objects becomes
+-- that of the unique object that `object` identifies; any other lifetime stays unchanged.
 abbrev pub life_at : (object : ℕ) → Life → Life
 life_at object Owned = Kept (PointerTo object)
 life_at object l = l
@@ -272,7 +274,7 @@ IsStart t v = Unit {0}
 abbrev pub Claims : (own : Thing → Holder) → Holder → RunTy → values.Value → Type 0
 Claims own h t v = Owns own h (thing_of t v) × IsStart t v
 
--- true if the two resources are equal
+-- true if two given resources (keys or unique pointers) are equal
 abbrev pub same_thing : Thing → Thing → Bool
 same_thing (KeyOf m) (KeyOf n) = m == n
 same_thing (PointerTo m) (PointerTo n) = m == n

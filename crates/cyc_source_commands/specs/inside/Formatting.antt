@@ -16,7 +16,7 @@ abbrev pub IsLaidOut : (text laid : List ℕ) → Type 0
 IsLaidOut text laid = (tokens : List Token) × IsAccepted text tokens × HasSameTokens tokens laid
 
 -- Says that the formatted text was written to the device completely, or a prefix of the text if the device failed. A text that the lexer
--- rejects is answered by its fault, unless memory ran out; in both cases no byte is written.
+-- rejects is answered by its fault, unless memory ran out. If the lexer rejects the text or memory runs out, no byte is written.
 abbrev pub AnswersFormat : (text : List ℕ) → (old new : Option (List ℕ)) → Result Answer Fault → Type 0
 AnswersFormat text old new (Ok answer) =
     (laid : List ℕ) × IsLaidOut text laid × (((answer ≡ Done) × Appends old new laid) ⊎ ((answer ≡ WriteFault) × AppendsPrefix old new laid))

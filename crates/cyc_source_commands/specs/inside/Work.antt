@@ -17,8 +17,9 @@ abbrev pub AnswersCheck : {X : Type 0} → List ℕ → Result X Fault → Type 
 AnswersCheck text (Ok done) = (p : Program) × IsAcceptedText text p
 AnswersCheck text (Err fault) = (fault ≡ memory_fault) ⊎ IsRefusedText text fault
 
--- Says that the answer to a compilation is correct. The answer is an image of the text's program, with the limits that follow from the
--- given ones, and the text's tokens. If the text is rejected, the answer is the text's fault, unless memory ran out.
+-- Says that the answer to a compilation is correct. An accepted text is answered by an image of its program and the text's tokens. The
+-- image has the limits on pages and calls that follow from the given limits. If the text is rejected, the answer is the text's fault,
+-- unless memory ran out.
 abbrev pub AnswersCompile : List ℕ → Given → Result Compilation Fault → Type 0
 AnswersCompile text given (Ok made) =
     ((p : Program) × IsCompiledText text p × IsImageOf p made.image.items)

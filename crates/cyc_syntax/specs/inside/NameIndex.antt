@@ -17,7 +17,7 @@ abbrev pub first_in : BTreeMap ℕ ℕ → ℕ → Option ℕ
 first_in firsts key = get_by (nat_cmp key) firsts
 
 -- The map `others` has the texts whose key equals that of an earlier text. Returns the number that
--- identifies a text, if the text is in this map.
+-- identifies a text, if the text is in the map `others`.
 abbrev pub other_in : BTreeMap (Vec ℕ Global) ℕ → List ℕ → Option ℕ
 other_in others text = get_by (λ v. slice_cmp nat_cmp text v.items) others
 
@@ -25,8 +25,8 @@ other_in others text = get_by (λ v. slice_cmp nat_cmp text v.items) others
 abbrev pub number_if : List (List ℕ) → List ℕ → Option ℕ
 number_if texts text = if is_among text texts then Some (number_of texts text) else None
 
--- Returns the result of a lookup: the number of the first text with the key if this text is equal. If that first text differs, the
--- result of a lookup is the entry stored for the text itself.
+-- Returns the result of a lookup: the number of the first text with the given key, if this first text equals the text that is
+-- looked up. If the first text with the given key differs, the result of the lookup is the number stored for the text itself.
 abbrev pub found_at : List (List ℕ) → Option ℕ → Option ℕ → List ℕ → Option ℕ
 found_at texts None other text = None
 found_at texts (Some n) other text = if bytes_eq (get_or texts n []) text then Some n else other

@@ -1,6 +1,6 @@
--- The weight of a syntax tree is the number of tokens that spell it, including brackets and separators. The weight is defined by
--- recursion on the tree, independently of the productions, for the passes whose output it bounds. The definition of the weight is this
--- project's own choice.
+-- The weight of a syntax tree is the number of tokens that spell it, including brackets and separators. The weight (number of tokens)
+-- of a tree is defined by recursion on the tree, independently of the productions, for the compiler passes whose output it bounds. The
+-- definition of the weight (number of tokens) is this project's own choice.
 use Rattle.std.specs.Prelude.{ℕ, ◌+◌, Bool, true, false, List, [], ◌∷◌, Option, Some, None}
 pub use Rattle.cyc_syntax.specs.Sums.{sum_of, separated_weight, optional_weight}
 use Rattle.cyc_syntax.specs.Trees.{Named, Pointer, BaseType, Int, Char, Struct, Handle, Key, WrittenType, Expression, Number, Character, Null, HeapRegion, UniqueRegion, Variable, Call, Bracketed, NumberOfElements, LowByteOf, FreeUnique, FreeKey}

@@ -37,7 +37,7 @@ use Rattle.cyc_types.proofs.typing.FormedLemmas.{known_more, IsCounted, IsFormed
 
 -- ---- well-formedness of later scopes
 
--- a well-formed scope stays well-formed when its next region number grows
+-- a well-formed scope stays well-formed when the index that its next declared region will get grows
 going_on : (g : Scope) (n m : ℕ) (taken : List ℕ) → g.next_region ≤ m → IsFormedScope g → IsFormedScope (record g { next_local = n; next_region = m; taken = taken })
 going_on g n m taken l formed = record {
   names = λ x r e. known_more g.next_region m r l (formed.names x r e);
@@ -134,7 +134,7 @@ opened_formed g formed r h (Fixed l t) q j (kept, eq) = (_, _, eq)
 opened_formed g formed r h (Counter n) q j (kept, eq) = (_, _, eq)
 opened_formed g formed r h (Routine f s) q j d = absurd d
 
--- the type of an alias declaration is well-formed; the type may mention the new region that the declaration introduces
+-- the type of an alias declaration is well-formed; the type may contain the new region that the declaration introduces
 aliased_formed : (g : Scope) (formed : IsFormedScope g) (r x : Named) (w : WrittenType) (m : Meaning) (q : Place) (j : typed.Item) → IsFormedMeaning g.structs g.next_region m
     → AllKept (type_demanded g.structs (with_name r g).names None w) → Derives (aliased g r x w m q) j → (t : Ty) × (k : ℕ) × (j ≡ typed.DeclareAlias g.next_region g.next_local t q k) × IsFormed g.structs (suc g.next_region) t
 aliased_formed g formed r x w Unknown q j k kept d = absurd d
@@ -226,7 +226,8 @@ base_known names base x r e = elim (base x) [ inl none ↦ absurd (none-some r (
     from_some : (a b : RegionCode) → Some a ≡ Some b → a ≡ b
     from_some a b f = ap (λ (o : Option RegionCode). unwrap_or o a) f
 
--- the region parameters of a struct are known regions, if they are numbered from n on
+-- if a struct's region parameters are numbered from n on, each region name denotes a built-in region or a region variable below n plus the
+-- number of parameters
 pub parameter_regions_known : (rs : List Named) (n : ℕ) (names : List RegionName) → ((x : ℕ) (r : RegionCode) → region_among names x ≡ Some r → IsKnown 0 r)
     → (x : ℕ) (r : RegionCode) → region_among (parameter_names rs n names) x ≡ Some r → IsKnown (n + length rs) r
 parameter_regions_known [] n names known x r e = known_more 0 (n + 0) r (omega arith) (known x r e)

@@ -219,7 +219,7 @@ parameters_known p h (m ∷ ms) [] n vs same i keys known = absurd (omega arith)
 parameters_known p h (m ∷ ms) (t ∷ ts) n vs same i (key, keys) known =
     parameters_known p h ms ts (suc n) _ (omega arith) (λ a b u e at_a. i (suc a) b u (omega arith) at_a) keys ((i 0 n t (omega arith) refl, key), known)
 
--- says that the global names, structs, fields and exceptions known while function bodies are checked agree with those of the typed program
+-- says that the global names, structs, fields and exceptions visible in function bodies agree with those of the typed program
 record Agrees (p : typed.Program) (q : Program) : Type 0 where
   pub base : IsBase q.known.regions
   pub program : (h : typed.Function) (x : ℕ) → IsMeantDeclared p h (meaning_in q.declared x)

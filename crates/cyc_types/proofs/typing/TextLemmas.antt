@@ -66,7 +66,7 @@ tree_demands = record {
 abbrev AreFewFields : List (List Field) → Type 0
 AreFewFields fss = AllByRecursion (λ (fs : List Field). length fs ≤ max_items) fss
 
--- says that each struct in scope has few fields, and that the number of each exception fits a 32-bit word
+-- says that each struct in scope has few fields, and that the number that identifies each exception fits a 32-bit word
 abbrev KnowsFew : Scope → Type 0
 KnowsFew g = AreFewFields g.fields × (suc (length g.exceptions) < 2 ^ 32)
 
@@ -497,7 +497,7 @@ mutual
 
 -- ---- programs
 
--- says that each struct of the program has few fields, and that the number of each exception fits a 32-bit word
+-- says that each struct of the program has few fields, and that the number that identifies each exception fits a 32-bit word
 abbrev ProgramKnowsFew : Program → Type 0
 ProgramKnowsFew p = AreFewFields p.fields × (suc (length p.exceptions) < 2 ^ 32)
 

@@ -93,7 +93,7 @@ abbrev pub locks_of : Items → List ℕ
 locks_of NoItems = []
 locks_of (MoreItems j js) = locked_by j ++ locks_of js
 
--- the enclosing loop and the borrowed locals for the declaration or statement that follows a given one
+-- the enclosing loop and the borrowed locals after a declaration or statement of a block, from those before it
 abbrev pub following_item : Item → Around → Around
 following_item j c = record c { locks = c.locks ++ locked_by j }
 
@@ -112,8 +112,8 @@ at_end js k = at (with_each Full (locks_of js) k.now) k
 
 -- ---- clauses
 
--- the state at the start of a catch clause, from the state at its `try`: a local that the body consumes, assigns or
--- lends out counts as empty
+-- the state at the start of a catch clause, from the state at its `try`: a local that the body of the `try`
+-- consumes, assigns or lends out counts as empty
 abbrev pub caught : State → Statement → State
 caught f s = emptied (touched_statement s []) f
 

@@ -40,7 +40,7 @@ is_as_full Locked Locked = true
 is_as_full Locked Full = false
 is_as_full Full b = true
 
--- returns true if each local is at least as full in the first list as in the second
+-- returns true if each local is at least as full (free, borrowed or perhaps empty) in the first list as in the second
 abbrev pub are_as_full : List Fullness → List Fullness → Bool
 are_as_full [] [] = true
 are_as_full [] (b ∷ bs) = false

@@ -4,7 +4,8 @@ use Rattle.cyc_types.specs.declared.region.Region.TheVariants.{Heap, Unique}
 use Rattle.cyc_types.specs.typing.Scopes.{RegionName}
 use Rattle.cyc_types.specs.typing.Formation.{Naming}
 
--- builds the record in which the compiler's code keeps the region names declared by some parameters and the next region number
+-- builds the record in which the compiler's code keeps the region names declared by some parameters and the number that the
+-- next region will get
 abbrev pub naming : List RegionName → ℕ → Naming
 naming names next = record { names = names; next = next }
 

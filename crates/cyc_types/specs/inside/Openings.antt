@@ -1,6 +1,6 @@
 -- A table stores the index of the oldest open scope of each region. If all scopes are in order (`IsOrderly`), these indexes decide the
 -- outlives relation without a search. A scope is in order only if its region is new whenever the regions live at its opening outlive this
--- region. The use of scope positions is this project's own choice.
+-- region. The use of the indexes of open scopes for the outlives relation is this project's own choice.
 use Rattle.std.specs.Prelude.{◌≡◌, ◌⊎◌, ◌<◌, ◌≤◌, ℕ, true, false, List, get_or, take, reverse, length}
 use Rattle.cyc_types.specs.declared.region.Region.{Region}
 use Rattle.cyc_types.specs.declared.region.Region.TheVariants.{Heap, Unique, Variable}

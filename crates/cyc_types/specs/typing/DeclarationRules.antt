@@ -1,6 +1,7 @@
 -- The typing rules of the signatures of declarations, and the entities that the declarations declare. Signatures are checked in order,
--- and the parts of a signature in the order of the source. All names of structs, functions and globals are known in the whole text.
--- (Effects and constraints are Cyclone's, Grossman et al. 2002; codes, positions and their order are this project's own choice.)
+-- and the components of a signature (such as types and names) in the order of the source. All names of structs, functions and globals
+-- are known in the whole text. (Effects and constraints are Cyclone's, Grossman et al. 2002; codes, positions and their order are this
+-- project's own choice.)
 use Rattle.std.specs.Prelude.{ℕ, zero, suc, pred, Bool, true, false, not, nat_eq, ◌&&◌, ◌||◌, if◌then◌else◌, List, [], ◌∷◌, ◌++◌, map, length, Option, Some, None, option_map}
 use Rattle.std.specs.List.{list_any}
 use Rattle.cyc_words.specs.declared.fault.Code.TheVariants as codes
@@ -21,7 +22,8 @@ use Rattle.cyc_types.specs.typing.Formation.{Naming, region_of, type_written, ty
 
 -- ---- the entities that signatures declare
 
--- the declarations known in the whole text: the built-in regions, the structs by number, and the number of the identifier `main`
+-- the declarations visible in the whole text: the built-in regions, the structs, indexed by the numbers that identify them, and
+-- the number that identifies the name `main`
 pub record Known : Type 0 where
   pub regions : List RegionName
   pub structs : List StructName
@@ -38,7 +40,7 @@ structs_of (Exceptions cs ∷ ds) = structs_of ds
 structs_of (Global w x v ∷ ds) = structs_of ds
 structs_of (Function r x ps b ∷ ds) = structs_of ds
 
--- adds the names of a struct's region parameters; the parameters are the region variables from n on
+-- adds the names of a struct's region parameters to a list of region names; the parameters are the region variables from n on
 abbrev pub parameter_names : List Named → ℕ → List RegionName → List RegionName
 parameter_names [] n names = names
 parameter_names (r ∷ rs) n names = record { name = r.name; region = Variable n } ∷ parameter_names rs (suc n) names
@@ -63,7 +65,7 @@ exceptions_of (Function r x ps b ∷ ds) = exceptions_of ds
 
 -- ---- signatures
 
--- the region names and the number of the next region, as they are after the parameters of a function
+-- the region names and the number that the next region will get, as they are after the parameters of a function
 abbrev pub parameter_naming : Known → Parameters → Naming
 parameter_naming k ps = after_members (record { names = k.regions; next = 1 }) (members_of ps.list)
 

@@ -3,7 +3,7 @@
 -- tree is defined by one recursion; a named function states the requirements of each form of expression. Operands are checked first, in the
 -- order of evaluation, then the requirements of the expression itself. Of the expression's own requirements that fail, the one with the
 -- lowest fault code is reported. (Names, types, regions and effects are Cyclone's, Grossman et al. 2002. Codes, positions, the order, and
--- the numbers of locals and regions are this project's own choice.)
+-- the numbers that identify locals and regions are this project's own choice.)
 use Rattle.std.specs.Prelude.{ℕ, zero, suc, Bool, true, false, not, nat_eq, ◌&&◌, ◌||◌, if◌then◌else◌, List, [], ◌∷◌, ◌++◌, map, length, slice_get, Option, Some, None, is_some, unwrap_or, option_map}
 use Rattle.std.specs.List.{list_any}
 use Rattle.cyc_words.specs.declared.fault.Code.TheVariants as codes
@@ -129,8 +129,9 @@ abbrev pub looked : Meaning → Place → Rule typed.Expression
 looked (scopes.Variable l t home) p = Own (demand codes.UniqueShared p (is_readable l t) ∷ []) (variable_looked l t)
 looked m p = read m p
 
--- The rule for an operand whose value is only tested, compared or dereferenced. If such an operand is a variable (in parentheses or not), a
--- unique pointer in the variable stays in the variable. For an operand that is not a variable, the typing rule is the argument `walked`.
+-- The rule for an operand whose value is only tested, compared or dereferenced. If an operand whose value is only tested, compared or
+-- dereferenced is a variable (in parentheses or not), a unique pointer in the variable stays in the variable. For an operand that is not a
+-- variable, the typing rule is the argument `walked`.
 abbrev pub rule_looked : Scope → Expression → (walked : Rule typed.Expression) → Rule typed.Expression
 rule_looked g (Variable x) walked = looked (meaning_of g x) x.place
 rule_looked g (Bracketed p e) walked = rule_looked g e walked
@@ -541,7 +542,8 @@ by_handle g p a = record {
   region = region_of (value_of (type_of a));
 }
 
--- the rule for the placement of a new object; `unique_region` is allowed only as such a placement, in parentheses or not
+-- the rule for the placement of a new object (the expression in `rnew(..)`); `unique_region` is allowed only as a
+-- placement, in parentheses or not
 abbrev pub rule_placement : Scope → Place → Expression → (walked : Rule typed.Expression) → Rule Placed
 rule_placement g p (UniqueRegion q) walked = gives as_unique
 rule_placement g p (Bracketed q e) walked = rule_placement g p e walked

@@ -67,7 +67,7 @@ type_written structs names outermost w = pointers_written names outermost (base_
 
 -- ---- the types of parameters, which declare the region names in them; each omitted region is a new one
 
--- the region names declared so far, and the number of the next region
+-- the region names declared so far, and the number that the next region will get
 pub record Naming : Type 0 where
   pub names : List RegionName
   pub next : ℕ
@@ -160,8 +160,8 @@ abbrev pub name_demanded : List RegionName → (own : Option ℕ) → Named → 
 name_demanded names None r = demand codes.UnknownName r.place (is_known names r)
 name_demanded names (Some own) r = demand codes.DeclaredTwice r.place (not (nat_eq r.name own))
 
--- The requirement that a region name does not denote the unique region, which is allowed only after a pointer sign. The next
--- requirement is that a key's region is not the heap, which has no key.
+-- The requirement that a region name does not denote the unique region, which is allowed only after a pointer sign. The
+-- definition after this one is the requirement that a key's region is not the heap, which has no key.
 abbrev pub no_unique_demanded : List RegionName → Named → Demand
 no_unique_demanded names r = demand codes.RegionOrKeyMisused r.place (not (is_name_of names Unique r))
 

@@ -52,7 +52,7 @@ before_all texts = record {
 
 -- ---- function bodies
 
--- the declarations of a program that are known in all function bodies
+-- the declarations of a program that are visible in all function bodies
 pub record Program : Type 0 where
   pub known : Known
   pub fields : List (List Field)
@@ -72,7 +72,7 @@ abbrev pub parameter_locals : List Member → List Ty → ℕ → List LocalVari
 parameter_locals (m ∷ ms) (t ∷ ts) n vs = parameter_locals ms ts (suc n) (record { name = m.name.name; number = n; of_type = t; region = 0; sort = Ordinary } ∷ vs)
 parameter_locals ms ts n vs = vs
 
--- the region names known in a function's body: the function's own region and those of the parameters
+-- the region names visible in a function's body: the function's own region and those of the parameters
 abbrev pub body_names : Known → Named → Parameters → List RegionName
 body_names k x ps = record { name = x.name; region = regions.Variable 0 } ∷ (parameter_naming k ps).names
 
@@ -81,7 +81,7 @@ abbrev pub body_regions : Signature → RegionContext
 body_regions s =
     with_scope kinds.Block (regions.Variable 0) (record { written = s.constraints; live = regions.Heap ∷ regions.Unique ∷ s.effect; opened = [] })
 
--- the scope of a function's body; the parameters belong to the same scope as the outermost locals of the body
+-- the scope of a function's body; the parameters are in the same scope as the outermost locals of the body
 abbrev pub body_scope : Program → Signature → Named → Parameters → Scope
 body_scope p s x ps = record {
   structs = p.known.structs;
@@ -156,7 +156,7 @@ abbrev pub struct_types : List StructName → List (List Field) → List typed.S
 struct_types (s ∷ structs) (fs ∷ fields) = record { parameters = s.parameters; fields = map (λ (f : Field). f.of_type) fs } ∷ struct_types structs fields
 struct_types structs fields = []
 
--- the number of the function named `main`
+-- the number that identifies the function named `main`
 abbrev pub function_number : ℕ → List Declaration → ℕ
 function_number main [] = 0
 function_number main (StructType s rs ms ∷ tree) = function_number main tree
@@ -173,7 +173,7 @@ program_of p tree fs = record {
   main = function_number p.known.main tree;
 }
 
--- the source position (line 1, column 1) of a fault that belongs to no position of the text
+-- the source position (line 1, column 1) that is reported for a fault without a position in the text
 abbrev pub start : Place
 start = record { line = 1; column = 1 }
 

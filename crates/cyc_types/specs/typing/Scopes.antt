@@ -76,7 +76,8 @@ pub record LocalVariable : Type 0 where
   pub sort : Sort
 
 pub record Scope : Type 0 where
-  -- the structs and exceptions of the program, indexed by number, and the fields of the structs; the first exception has the number 1
+  -- the structs and exceptions of the program, indexed by the numbers that identify them, and the fields of the structs; the first
+  -- exception has the number 1
   pub structs : List StructName
   pub fields : List (List Field)
   pub exceptions : List Exception
@@ -95,7 +96,7 @@ pub record Scope : Type 0 where
   -- the numbers that will identify the next declared local and the next declared region
   pub next_local : ℕ
   pub next_region : ℕ
-  -- the number of the region of the innermost enclosing block
+  -- the number that identifies the region of the innermost enclosing block
   pub region : ℕ
   pub in_loop : Bool
   -- the number of enclosing array `for`s

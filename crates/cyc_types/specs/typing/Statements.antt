@@ -1,6 +1,7 @@
--- The typing rules of statements, of declarations in blocks and of catch clauses. Statements are checked in order, and the parts of a
--- declaration in the order of the source. The initial value of a local is checked before the local's name. (Lexical and dynamic regions and
--- aliases are Cyclone's, Grossman et al. 2002 and the User's Manual, 1.0. Codes, positions and their order are this project's own choice.)
+-- The typing rules of statements, of declarations in blocks and of catch clauses. Statements are checked in order, and the components of a
+-- declaration (types, names and values) in the order of the source. The initial value of a local is checked before the local's name.
+-- (Lexical and dynamic regions and aliases are Cyclone's, Grossman et al. 2002 and the User's Manual, 1.0. Codes, positions and their order
+-- are this project's own choice.)
 use Rattle.std.specs.Prelude.{ℕ, suc, ◌+◌, Bool, true, false, not, nat_eq, ◌&&◌, ◌||◌, if◌then◌else◌, List, [], ◌∷◌, ◌++◌, Option, Some, None, is_some, option_map}
 use Rattle.std.specs.List.{list_any}
 use Rattle.cyc_words.specs.declared.fault.Code.TheVariants as codes
@@ -25,8 +26,8 @@ use Rattle.cyc_types.specs.typing.Expressions.{conversion, converted, as_int, te
 abbrev pub rule_condition : Scope → Expression → Rule typed.Expression
 rule_condition g e = Part (rule_looked g e (rule g e)) (λ a. Own (test_wanted (type_of (as_int a)) (place_of e) ∷ []) (as_int a))
 
--- The rule for a returned value: a function returns a value exactly if it has a result type. `return` is at position p, the value at
--- position q.
+-- The rule for a returned value: a function returns a value exactly if it has a result type. `return` is at source position p, the
+-- value at source position q.
 abbrev pub returned : Scope → Option Ty → Place → Place → typed.Expression → Rule (Option Converted)
 returned g None p q a = Refused (fault_at codes.TypeMismatch p)
 returned g (Some t) p q a = Own (conversion g.regions (type_of a) t q) (Some (converted a t))
@@ -47,7 +48,7 @@ swapped p x y =
 
 -- ---- exceptions
 
--- the number of the exception named x
+-- the number that identifies the exception named x
 abbrev pub exception_number : List Exception → ℕ → ℕ
 exception_number [] x = 1
 exception_number (e ∷ es) x = if nat_eq e.name x then 1 else suc (exception_number es x)
@@ -107,8 +108,8 @@ left_out_of t = regions.Heap
 abbrev pub local_type : Scope → ValueType → WrittenType → Ty
 local_type g v w = type_written g.structs g.names (left_out_of v) w
 
--- The rule for a local whose initial value is at position p. Of the faults of the local's name and of the value's conversion, the one with
--- the lowest code is reported.
+-- The rule for a local whose initial value is at source position p. Of the faults of the local's name and of the value's conversion, the
+-- one with the lowest code is reported.
 abbrev pub initialised : Scope → Named → Place → typed.Expression → Ty → Rule (Ty × Option Converted)
 initialised g x p a t = Own (new_demanded g x ∷ conversion g.regions (type_of a) t p) (t, Some (converted a t))
 
@@ -133,7 +134,7 @@ abbrev pub number_of_region : RegionCode → ℕ
 number_of_region (regions.Variable n) = n
 number_of_region r = 0
 
--- the number of the local that a variable is; for a variable that is a global, an arbitrary number
+-- the number that identifies a variable that is a local; for a variable that is a global, an arbitrary number
 abbrev pub local_number : Lvalue → ℕ
 local_number (typed.Local p n) = n
 local_number (Global n) = 0
@@ -162,7 +163,7 @@ abbrev pub with_region_of : RegionCode → Ty → Ty
 with_region_of r (Pointer k t s) = Pointer k t r
 with_region_of r t = t
 
--- returns true if a variable is a local; a unique pointer in any other variable is shared
+-- returns true if a variable is a local; any other variable is a global, whose unique pointer is shared by all functions
 abbrev pub is_local : Lvalue → Bool
 is_local (typed.Local p n) = true
 is_local (Global n) = false

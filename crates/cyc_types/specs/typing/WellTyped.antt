@@ -1,9 +1,9 @@
 -- The typing judgement on typed trees of the whole language: a tree is well-typed in its context, whether or not it comes from a source
 -- text. In the states of an execution, the typing judgement also applies to the operators, arguments or declarations and statements of a
 -- block that are not yet evaluated. The typing rules derive only well-typed trees. The typing judgement contains all facts that a proof
--- about executions needs. The typing rules ensure some facts of the typing judgement without a requirement: declared numbers are fresh, and
--- a variable's own region is live at its declaration. (Typing, regions, effects and outlives are those of Grossman et al. 2002. The form of
--- the judgement is this project's own choice.)
+-- about executions needs. The typing rules ensure some facts of the typing judgement without a requirement: each declared local or region
+-- gets a new number, and a variable's own region is live at its declaration. (Typing, regions, effects and outlives are those of Grossman
+-- et al. 2002. The form of the judgement is this project's own choice.)
 use Rattle.std.specs.Prelude.{◌≡◌, ◌≢◌, ◌⊎◌, ℕ, suc, ◌+◌, ◌<◌, ◌≤◌, Bool, true, false, List, [], ◌∷◌, ◌++◌, Option, Some, None, Contains, length, map, slice_get}
 use Rattle.cyc_syntax.specs.declared.tree.PointerKind.{PointerKind}
 use Rattle.cyc_syntax.specs.declared.tree.PointerKind.TheVariants as marks
@@ -33,21 +33,22 @@ use Rattle.cyc_types.specs.typing.Statements.{with_region_of}
 
 -- a local variable that is in scope
 pub record LocalInScope : Type 0 where
-  -- the number of the local in its function
+  -- the number that identifies the local in its function
   pub number : ℕ
   pub of_type : Ty
-  -- the number of the region of the block that declares the local
+  -- the number that identifies the region of the block that declares the local
   pub region : ℕ
   -- true if the local may be assigned; the handle of a `region` declaration may not be assigned
   pub is_place : Bool
 
 pub record Context : Type 0 where
-  -- the structs of the program, indexed by number
+  -- the structs of the program, indexed by the numbers that identify them
   pub structs : List StructType
   pub exceptions : List Bool
   pub globals : List Ty
   pub functions : List Signature
-  -- the types of the function's locals by number, the number of the function's regions, and the function's result type
+  -- the types of the function's locals, indexed by the numbers that identify the locals; the count of the function's
+  -- regions; and the function's result type
   pub variables : List Ty
   pub region_count : ℕ
   pub result : Option Ty
@@ -56,7 +57,7 @@ pub record Context : Type 0 where
   -- the numbers that will identify the next declared local and the next declared region
   pub next_local : ℕ
   pub next_region : ℕ
-  -- the number of the region of the innermost enclosing block
+  -- the number that identifies the region of the innermost enclosing block
   pub region : ℕ
   -- the live regions and the outlives constraints at the program point that is checked
   pub regions : RegionContext
@@ -308,11 +309,12 @@ IsCaught c has v = ⊥
 abbrev pub after_clause : Context → Option ℕ → Items → Context
 after_clause c v js = record c { next_local = c.next_local + (length (caught_types v) + length (item_types js)); next_region = c.next_region + suc (item_regions js) }
 
--- Says that n is the number of the next local, that this local has type t in its function, and that it lies in a live region.
+-- Says that n is the number that identifies the next declared local, that this local has type t in its function, and that it
+-- lies in a live region.
 abbrev pub IsDeclared : Context → ℕ → Ty → Type 0
 IsDeclared c n t = (n ≡ c.next_local) × (slice_get c.variables n ≡ Some t) × IsLive c (regions.Variable c.region)
 
--- says that r is the number of the next region
+-- says that r is the number that identifies the next declared region
 abbrev pub IsNextRegion : Context → ℕ → Type 0
 IsNextRegion c r = (r ≡ c.next_region) × (r < c.region_count)
 

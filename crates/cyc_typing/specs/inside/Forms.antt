@@ -1,4 +1,4 @@
--- The arguments and results of the functions for the expression forms, as the typing rules see them.
+-- The values of the typing rules that the arguments and results of the functions that check the forms of expressions represent.
 use Rattle.std.specs.Prelude.{◌≡◌, List, [], ◌∷◌, ◌++◌, Option, Some, None, Result, Ok, Err}
 use Rattle.std.specs.declared.boxed.Box.{Box}
 use Rattle.std.specs.declared.alloc.Global.{Global}
@@ -32,7 +32,8 @@ put_operation (operation.PointerPeek n o e) = typed.ThenPointerPeek n o (view.vi
 
 -- ---- values that are passed between parts
 
--- Says that the code's result represents a memory cell reached through a pointer, whose requirements are already checked.
+-- Says that the result of the checker's code represents a memory cell reached through a pointer, and that the
+-- requirements on this cell are already checked.
 pub record IsReached (r : Box ReachedCode Global) (w : Reached) : Type 0 where
   pub asked : r.value.settled.known ≡ settled None w.asked
   pub cell : view.view_dereference r.value.cell.value ≡ w.cell

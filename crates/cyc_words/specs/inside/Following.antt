@@ -2,9 +2,9 @@
 -- several passes compose to `Preserves`. The form of simulation for passes is this project's own choice.
 --
 -- A state of the lower machine is matched with a state of the upper machine. A step of the upper machine is matched by a sequence of
--- steps of the lower machine. These steps are at code positions that are assigned to the upper step, each visited at most once. For any
--- price of positions, the matching sequence costs at most the sum over the positions assigned to the upper step, through any number of
--- passes. If each machine word of the code has the price one, then this sum bounds the number of instructions.
+-- steps of the lower machine. The matching steps are at code positions that are assigned to the upper step, each visited at most once.
+-- For any price of positions, the matching sequence costs at most the sum over the positions assigned to the upper step, through any
+-- number of passes. If each machine word of the code has the price one, then the sum of the prices bounds the number of instructions.
 use Rattle.std.specs.Prelude.{◌≡◌, ℕ, ◌+◌, ◌≤◌, ◌<◌, ◌⊎◌, List, [], ◌∷◌, length, sum_by, Contains}
 use Rattle.std.specs.List.{AllByRecursion}
 use Rattle.cyc_words.specs.Distinct.{IsDistinct}

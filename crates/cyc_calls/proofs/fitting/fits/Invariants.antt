@@ -5,7 +5,7 @@ use Rattle.cyc_operands.specs.inside.Operands.{value_in}
 use Rattle.cyc_calls.specs.inside.Fitting.{FitsValues}
 use Rattle.cyc_calls.proofs.fitting.fits.Given as goal
 
--- Invariant: if the remaining arguments fit, all arguments fit.
+-- Invariant: if the remaining arguments fit their parameters, all arguments of the call fit their parameters.
 abbrev pub invariant-loop-i : goal.invariant-loop-i
 invariant-loop-i l =
     (new : List (Option Region)) → FitsValues l.scope.regions l.table new (map view_ty (drop l.i l.parameters)) (map value_in (drop l.i l.values))

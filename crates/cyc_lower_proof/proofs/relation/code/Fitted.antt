@@ -46,7 +46,7 @@ use Rattle.cyc_lower_proof.proofs.relation.code.GivenTypes.{kinds_same, kind_mov
 -- ---- properties of a well-typed tree
 
 module _ (b : Numbering) (types : Types) where
-  -- Says that a typing context agrees with a function whose indices have these bounds and whose locals have these types.
+  -- Says that a typing context agrees with a function whose indices have the bounds `b` and whose locals have the types `types`.
   record Suits (c : Context) : Type 0 where
     functions : c.functions ≡ b.functions
     structs : c.structs ≡ types.structs
@@ -416,7 +416,7 @@ may_count : (may : Bool) → may ≡ true → IsCounting (scopes_if may)
 may_count true is = (RECORD_WORDS, refl)
 may_count false is = absurd (let f : false ≡ true = is in cc)
 
--- The functions of the list `hs` belong to the program and meet the requirements of lowering.
+-- The functions of the list `hs` are functions of the program and meet the requirements of lowering.
 functions_fit : (p : Program) (hs : List Function) → (list_any may_open hs ≡ true → list_any may_open p.functions ≡ true) → FunctionsMeet lowering_demands hs → AreWellTypedFunctions p hs
     → AreFitting p.structs p.globals (scopes_of p) (signatures_of p.functions) hs
 functions_fit p [] among met well = tt

@@ -26,7 +26,8 @@ use Rattle.cyc_lower_proof.proofs.slots.Widths.{given, HasRoom, HasGlobal, HasFi
 -- ---- the demands
 
 module _ (b : Numbering) (types : Types) where
-  -- Says that a variable exists and has enough words for a value of this kind, which is read from the variable or stored in it.
+  -- Says that a variable exists and has enough words for a value of representation kind `kind` (int, char, pointer, ..). The
+  -- value is read from the variable or stored in it.
   abbrev pub FitsPlace : Lvalue → Kind → Type 0
   FitsPlace (Local p n) kind = (n < b.locals) × HasRoom types n kind
   FitsPlace (Global n) kind = HasGlobal types n kind
@@ -97,7 +98,7 @@ abbrev pub IsCounting : (scopes : Option ℕ) → Type 0
 IsCounting scopes = (place : ℕ) × (scopes ≡ Some place)
 
 module _ (b : Numbering) (types : Types) where
-  -- Says that one operand of a swap of values of this kind meets the requirements of lowering.
+  -- Says that one operand of a swap `:=:` of values of one representation kind (int, char, pointer, ..) meets the requirements of lowering.
   abbrev pub FitsSide : Side → Kind → Type 0
   FitsSide (VariableSide l t) kind = FitsPlace b types l kind
   FitsSide (CellSide x) kind = FitsCell b types x

@@ -1,4 +1,4 @@
--- This file proves the types and kinds of the results of expressions in a well-typed tree.
+-- This file proves the types and the representation kinds (int, char, pointer, ..) of the results of expressions in a well-typed tree.
 use Rattle.std.proofs.Common.{◌≡◌, ◌⊎◌, ◌≤◌, true, false, List, [], ◌∷◌, map, Option, None, Some, refl, sym, ap, subst, ◌∙◌, arith, inl, inr}
 use Rattle.std.specs.Prelude.{option_map, not, ◌&&◌}
 use Rattle.cyc_syntax.specs.declared.tree.PointerKind.{PointerKind}
@@ -34,7 +34,7 @@ kinds_same (type_forms.Handle r) = refl
 kinds_same (type_forms.Key r) = refl
 kinds_same (type_forms.Struct n rs) = refl
 
--- Substituting regions does not change the kind of a type.
+-- Substituting regions in a type does not change the representation kind (int, char, pointer, ..) of its values.
 kind_substituted : (m : List Region) (t : Ty) → kind_of (substituted_ty m t) ≡ kind_of t
 kind_substituted m type_forms.Int = refl
 kind_substituted m type_forms.Char = refl
@@ -43,7 +43,7 @@ kind_substituted m (type_forms.Handle r) = refl
 kind_substituted m (type_forms.Key r) = refl
 kind_substituted m (type_forms.Struct n rs) = refl
 
--- Replacing the region in a pointer type does not change the kind of the type.
+-- Replacing the region in a pointer type does not change the representation kind (nullable, non-null or fat pointer) of its values.
 pub kind_moved : (r : Region) (t : Ty) → kind_of (with_region_of r t) ≡ kind_of t
 kind_moved r type_forms.Int = refl
 kind_moved r type_forms.Char = refl
@@ -68,7 +68,8 @@ pub result_substituted : (m : List Region) (t : Option Ty) (u : ValueType) → u
 result_substituted m None u is = omega arith
 result_substituted m (Some t) u is = omega (arith, words_substituted m t, ap result_words is)
 
--- Holds if values of this type have this kind; the type `void`, which has no values, may have any kind.
+-- Holds if values of a type have the representation kind `kind` (int, char, pointer, ..); the type
+-- `void`, which has no values, may have any kind.
 abbrev pub IsGiven : Kind → ValueType → Type 0
 IsGiven kind Void = Unit {0}
 IsGiven kind type_forms.Null = kind ≡ kinds.Nullable
@@ -112,7 +113,7 @@ fat_words marks.Fat is = omega arith
 fat_words marks.Nullable is = absurd (let f : true ≡ false = is in cc)
 fat_words marks.NonNull is = absurd (let f : true ≡ false = is in cc)
 
--- The result of a pointer operator has the kind that the operator yields.
+-- The result of a pointer operator has the representation kind (int, char, pointer, ..) that the operator yields.
 operation_given : (o : PointerOperator) (c : Context) (left right result : ValueType) → PointerOperation c o left right result → IsGiven (operator_kind o) result
 operation_given pointers.AddFat c left right result (adds t r other) = refl
 operation_given pointers.SubtractFat c left right result (subtracts t r other) = refl
@@ -173,7 +174,7 @@ next_words pointers.FatIsNotNull os c left right result u alone (fat_there k t r
 next_words pointers.NullIs os c left right result u alone (null_is k t r) rest = words_positive u
 next_words pointers.NullIsNot os c left right result u alone (null_is_not k t r) rest = words_positive u
 
--- The result of an operator chain has the kind that `chain_kind` computes.
+-- The result of a chain of operators has the representation kind (int, char, pointer, ..) that `chain_kind` computes.
 pub chain_given : (os : Operations) (c : Context) (left : ValueType) (kind : Kind) (u : Ty) → IsChain c left os u → IsGiven kind left → IsGiven (chain_kind kind os) (Value u)
 chain_given NoOperations c left kind u is given_left = subst (IsGiven kind) is given_left
 chain_given (ThenCompute o x os) c left kind u (int, right, rest) given_left = chain_given os c (Value type_forms.Int) kinds.Int u rest refl
@@ -181,7 +182,8 @@ chain_given (ThenTest o x os) c left kind u (tested, right, rest) given_left = c
 chain_given (ThenPointer o x os) c left kind u (v, w, right, operation, rest) given_left = chain_given os c w (operator_kind o) u rest (operation_given o c left v w operation)
 chain_given (ThenPointerPeek n o x os) c left kind u (v, w, right, operation, rest) given_left = chain_given os c w (operator_kind o) u rest (operation_given o c left v w operation)
 
--- The left operand of a chain is a well-typed value, or it is a peek, that is, a read of a local that keeps its value.
+-- The left operand of a chain of operators is a well-typed value, or an early read of a local that must not change
+-- until the operator is applied.
 pub seen_left : (os : Operations) (a : Expression) (c : Context) (v : ValueType) → IsLeft (WellTyped c a v) c a v os → WellTyped c a v ⊎ IsPeek c a v
 seen_left NoOperations a c v well = inl well
 seen_left (ThenCompute o x os) a c v well = inl well

@@ -46,7 +46,7 @@ abbrev pub EachAt : (code : List Instruction) → (each : (global slot : ℕ) �
 EachAt code each zero first slot p q = p ≡ q
 EachAt code each (suc words) first slot p q = At code p (each first slot) × EachAt code each words (suc first) (suc slot) (p + 1) q
 
--- Holds if the code at p stores a value with this number of words in a global.
+-- Holds if the code at p stores a value of `words` machine words in a global.
 abbrev pub GlobalAt : (code : List Instruction) → (words first : ℕ) → Operand → (p q : ℕ) → Type 0
 GlobalAt code words first (operands.Slot n) p q = EachAt code store_word words first n p q
 GlobalAt code words first (operands.Word n) p q = At code p (instructions.StoreGlobal first (operands.Word n)) × (p + 1 ≡ q)
@@ -87,13 +87,13 @@ module _ (code : List Instruction) where
   abbrev pub OverAt : (p q : ℕ) → Type 0
   OverAt p q = (p ≡ q) ⊎ At code p (instructions.Jump q)
 
-  -- Holds if the code at p declares a local of a kind without a value.
+  -- Holds if the code at p declares a local of representation kind `kind` (int, char, pointer, ..) that has no initial value.
   abbrev pub BlankAt : Kind → (slot p q : ℕ) → Type 0
   BlankAt kinds.Char slot p q = At code p (instructions.Move slot (operands.Word 0)) × (p + 1 ≡ q)
   BlankAt kind slot p q = p ≡ q
 
--- States what instructions must be at the code positions from p to q, in a function with these bounds on indices, these local
--- types, and temporaries from slot t on.
+-- States what instructions must be at the code positions from p to q, in a function with the bounds `bounds` on indices, the
+-- local types `types`, and temporaries from slot t on.
 module _ (code : List Instruction) (bounds : Numbering) (types : Types) where
   -- The first proposition if the flag is true, otherwise the second proposition.
   abbrev pub EitherBy : Bool → (there otherwise : Type 0) → Type 0
@@ -145,7 +145,7 @@ module _ (code : List Instruction) (bounds : Numbering) (types : Types) where
       (r : ℕ) × (s : ℕ) × ((x : ℕ) × At code p (instructions.Branch comparisons.Equal (operands.Slot n) (operands.Word 0) x) × null x × (p + 1 ≡ r))
       × BoundsAt (operands.Slot m) (operands.Slot (n + 1)) r s × SteppedAt span n m t s q
 
-  -- Holds if the code at p multiplies an index by the size of a cell; if no size is given, then no code is required.
+  -- Holds if the code at p multiplies an index by the size of a cell; if `span` has no size, then no code is required.
   abbrev pub ScaledAt : (span : Option ℕ) → (m x p q : ℕ) → Type 0
   ScaledAt None m x p q = p ≡ q
   ScaledAt (Some bytes) m x p q = At code p (scale_of bytes x m) × (p + 1 ≡ q)
@@ -291,15 +291,15 @@ module _ (code : List Instruction) (bounds : Numbering) (types : Types) where
   SavedAt kind address (operands.Slot n) p q = StoresAt kind (words_of_kind kind) address 0 n p q × StandsApart (words_of_kind kind) address n
   SavedAt kind address (operands.Word n) p q = At code p (store_of kind (operands.Slot address) 0 (operands.Word n)) × (p + 1 ≡ q)
 
-  -- Says that the code at p stores values of these kinds, from consecutive slots, in cells of the object whose address is in a slot. The
-  -- cells begin `at` bytes after the object's address.
+  -- Says that the code at p stores values, given by the list of their representation kinds (int, char, pointer, ..), from consecutive
+  -- slots in cells of the object whose address is in a slot. The cells begin `at` bytes after the object's address.
   abbrev pub CellsAt : List Kind → (address at slot p q : ℕ) → Type 0
   CellsAt [] address at slot p q = p ≡ q
   CellsAt (kind ∷ ks) address at slot p q =
       (r : ℕ) × StoresAt kind (words_of_kind kind) address (begins kind at) slot p r × CellsAt ks address (following kind at) (slot + words_of_kind kind) r q
 
-  -- Says that the code at p creates an object with cells of these kinds from the values in the slots from t on. The code also moves the
-  -- address of the new object to slot d.
+  -- Says that the code at p creates an object with one cell for each representation kind (int, char, pointer, ..) of a list, from the
+  -- values in the slots from t on. The code also moves the address of the new object to slot d.
   abbrev pub ObjectAt : (handle : Operand) → List Kind → (t d p q : ℕ) → Type 0
   ObjectAt handle ks t d p q =
       (m : ℕ) × (0 < length ks) × (slots_of_kinds ks ≤ MOST_BLOCK_WORDS)
@@ -368,7 +368,7 @@ module _ (code : List Instruction) (bounds : Numbering) where
         × SavedAt code bounds types (kind_passed v) t o u m)
         × CopyAt code (passed_words v) o d m q
 
-    -- Says that the code from p to q creates a new object in the region of this handle.
+    -- Says that the code from p to q creates a new object in the region whose handle is the operand `handle`.
     pub MadeAt : (types : Types) → Initial → (handle : Operand) → (d t p q : ℕ) → Type 0
     MadeAt types (Plain kind a) handle d t p q =
         (m : ℕ) × ExpressionAt types a t t p m × (given bounds.functions a ≡ kind) × ObjectAt code bounds types handle (kind ∷ []) t d m q
@@ -419,7 +419,8 @@ module _ (code : List Instruction) (bounds : Numbering) where
     ArgumentsAt types NoArguments t p q = p ≡ q
     ArgumentsAt types (MoreArguments c cs) t p q = (m : ℕ) × ConvertedAt types c t p m × ArgumentsAt types cs (t + passed_words c) m q
 
-    -- Says that the code applies operators to the left operand l. If an operator does not accept every operand, then l is slot t.
+    -- Says that the code applies operators to the left operand l. For an operator whose left operand must not be a constant or
+    -- the slot of a local, l is slot t.
     pub OperationsAt : (types : Types) → Operations → (l : Operand) → (d t p q : ℕ) → Type 0
     OperationsAt types NoOperations l d t p q = (l ≡ operands.Slot d) × (p ≡ q)
     OperationsAt types (ThenCompute o a os) l d t p q =
@@ -439,7 +440,7 @@ module _ (code : List Instruction) (bounds : Numbering) where
         × PointerAt code bounds types o r t (next_slot os d t) m s × OperationsAt types os (operands.Slot (next_slot os d t)) d t s q
 
 module _ (code : List Instruction) (bounds : Numbering) (types : Types) where
-  -- Says that the code fills the elements of an array, each of which is the value of this expression.
+  -- Says that the code fills the elements of an array, each of which is the value of one expression `a`.
   abbrev pub ElementsAt : Expression → Kind → (t d h r s q : ℕ) → Type 0
   ElementsAt a kind t d h r s q = ElementsBy code bounds types (ExpressionAt code bounds (counted types (t + 2)) a (t + 3) (t + 3) (h + 1) r) kind t d h r s q
 
@@ -501,8 +502,8 @@ module _ (code : List Instruction) (bounds : Numbering) (types : Types) where
         ⊎ ((x : ℕ) × (y : ℕ) × BranchesAt a x y t p × TestsAt (ThenTest u b os) true t x (Ends f h) × TestsAt (ThenTest u b os) false t y (Ends f h))
     BranchesAt a f h t p = ComparedAt a f h t p
 
-    -- Says what code follows a left operand of `&&` or `||` that is known to fail or to hold: the left operand
-    -- decides, or the right operand is evaluated.
+    -- Says what code follows a left operand of `&&` or `||` whose outcome is decided: either this outcome
+    -- decides the result, or the right operand is evaluated.
     pub TestsAt : Operations → (fails : Bool) → (t p : ℕ) → (goes : (fails : Bool) → (p : ℕ) → Type 0) → Type 0
     TestsAt NoOperations fails t p goes = goes fails p
     TestsAt (ThenTest logical.AndThen b os) true t p goes = TestsAt os true t p goes
@@ -513,8 +514,8 @@ module _ (code : List Instruction) (bounds : Numbering) (types : Types) where
         (f : ℕ) × (h : ℕ) × BranchesAt b f h t p × TestsAt os true t f goes × TestsAt os false t h goes
     TestsAt os fails t p goes = ⊥
 
-  -- Says that a loop, with these targets of `break` and `continue` and with a body at position `body`, begins with one of two pieces
-  -- of code. It tests the condition and goes to the body or to the exit, or it jumps to the condition after the body.
+  -- Says that a loop, with the targets of `break` and `continue` in `exits` and with a body at position `body`, begins with one of
+  -- two pieces of code. It tests the condition and goes to the body or to the exit, or it jumps to the condition after the body.
   abbrev pub EntryAt : Expression → Exits → (body t test : ℕ) → Type 0
   EntryAt a exits body t test =
       BranchesAt a exits.leaving body t (continue_target exits)

@@ -28,12 +28,12 @@ use Rattle.cyc_lower_proof.specs.inside.Lowering.{results_of}
 use Rattle.cyc_lower_proof.proofs.slots.Widths.{kind_of_result, HasRoom, HasGlobal, HasLocal}
 use Rattle.cyc_lower_proof.proofs.relation.code.Stands.{EachAt, GlobalAt, AddressAt, OverAt, BlankAt, OperandBy, ReturnedAt, ConversionAt, LoadAt, StoresAt, ExpressionAt, PlaceAt, InitialAt, PrintedAt, BroughtAt, ValueAt, BranchesAt, EntryAt, AssignmentAt, StoredAt}
 
--- States what instructions must be at the code positions from p to q, in a function with these bounds on indices, these local
--- types, and temporaries from slot t on.
+-- States what instructions must be at the code positions from p to q, in a function with the bounds `bounds` on indices, the
+-- local types `types`, and temporaries from slot t on.
 module _ (code : List Instruction) (bounds : Numbering) (types : Types) where
   -- ---- swaps
 
-  -- Holds if one operand of a swap has enough words for a value of this kind.
+  -- Holds if one operand of a swap `:=:` has enough words for a value of representation kind `kind` (int, char, pointer, ..).
   abbrev pub HasSide : Side → Kind → Type 0
   HasSide (VariableSide (Local w n) ty) kind = HasRoom types n kind
   HasSide (VariableSide (Global n) ty) kind = HasGlobal types n kind

@@ -26,7 +26,8 @@ module _ (code : List Instruction) (bounds : Numbering) (types : Types) where
   tests_reach reach (ThenTest logical.OrElse b os) true t p (f, h, at_b, first, second) = tests_reach reach os true t f first
   tests_reach reach os fails t p at = absurd at
 
-  -- In the claim about a chain of tests, the property of the code after the chain may be replaced by a property that it implies.
+  -- `TestsAt` states a property of the code that comes after a chain of `&&` or `||` tests. This property may be replaced by one
+  -- that it implies.
   pub tests_go : {goes others : (fails : Bool) → (p : ℕ) → Type 0} → ((fails : Bool) (p : ℕ) → goes fails p → others fails p)
       → (os : Operations) (fails : Bool) (t p : ℕ) → TestsAt code bounds types os fails t p goes → TestsAt code bounds types os fails t p others
   tests_go leads NoOperations fails t p at = leads fails p at

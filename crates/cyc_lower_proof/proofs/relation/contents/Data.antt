@@ -56,7 +56,7 @@ contents_made objects x o below = ap content_of (slice_get_before objects x o be
 pub contents_new : (objects : List Object) (x : Object) → contents (objects ++ x ∷ []) (length objects) ≡ content_of (Some x)
 contents_new objects x = ap content_of (slice_get_last objects x)
 
--- Holds if the objects whose indices are in a range contain equal values in both lists of objects.
+-- Compares two lists of objects: holds if each object whose index is in a range contains equal values in both lists.
 abbrev pub SameBetween : (low high : ℕ) (objects others : List Object) → Type 0
 SameBetween low high objects others = (o : ℕ) → low ≤ o → o < high → contents others o ≡ contents objects o
 
@@ -135,8 +135,8 @@ module _ (t : Tables) where
   pub Is-same : (kind : Kind) (v : Value) (words other : Words) (p q : ℕ) → ((i : ℕ) → i < words_of_kind kind → other (q + i) ≡ words (p + i)) → Is t kind v words p → Is t kind v other q
   Is-same kind v words other p q same is = words_same t kind v words other p q same is
 
-  -- If two maps from slots to words are equal in all slots below a bound, then a list of values that these
-  -- slots hold in one map is also held in the other.
+  -- Two maps from slots to words are equal in all slots below a bound. If these slots contain the words of
+  -- a list of values in one map, then they do so in the other map as well.
   pub Holds-same : (slots other : Words) (base : ℕ) (vs : List Operand) → ((n : ℕ) → n < height base vs → other n ≡ slots n) → Holds t slots base vs → Holds t other base vs
   Holds-same slots other base [] same holds = tt
   Holds-same slots other base (v ∷ vs) same (is, holds) = (
@@ -198,7 +198,8 @@ module _ (t : Tables) where
     small = hold.small;
   }
 
-  -- If two maps from slots to words are equal in the slot of a char local, then the char is below 256 in both.
+  -- If two maps from slots to words are equal in the slot of a char local, and the char is below 256 in one
+  -- map, then it is below 256 in the other map as well.
   small_same : (types : Types) (slots other : Words) (number : ℕ) (kind : Kind) → HasRoom types number kind
       → ((m : ℕ) → slot_of (starts_of types) number ≤ m → m < slot_of (starts_of types) number + words_in types.locals number → other m ≡ slots m)
       → slots (slot_of (starts_of types) number) < 256 → other (slot_of (starts_of types) number) < 256
@@ -206,7 +207,8 @@ module _ (t : Tables) where
       let slot = slot_of (starts_of types) number in
       subst (λ (w : ℕ). w < 256) (sym (same slot (omega arith) (omega (arith, room, kind_positive kind)))) low
 
-  -- If two maps from slots to words are equal in the slots of a local, then the local has its value in both.
+  -- If two maps from slots to words are equal in the slots of a local, and these slots represent the local's
+  -- value in one map, then they do so in the other map as well.
   local_same : (types : Types) (slots other : Words) (number : ℕ) (v : Operand) → number < length types.locals → HasRoom types number v.kind
       → ((m : ℕ) → slot_of (starts_of types) number ≤ m → m < slot_of (starts_of types) number + words_in types.locals number → other m ≡ slots m)
       → Is t v.kind v.value slots (slot_of (starts_of types) number) → Is t v.kind v.value other (slot_of (starts_of types) number)

@@ -41,7 +41,7 @@ abbrev pub IsLow : Operand → (t : ℕ) → Type 0
 IsLow (operands.Slot n) t = n ≤ t
 IsLow (operands.Word w) t = Unit {0}
 
--- Holds if these slots contain the words of a fat pointer whose index is in a separate slot.
+-- Holds if slots n and n + 1 contain the first two words of a fat pointer and slot m contains its index.
 abbrev pub IsParts : Tables → Value → Words → (n m : ℕ) → Type 0
 IsParts t v slots n m = Is t kinds.Fat v (λ j. if j == 0 then slots n else if j == 1 then slots (n + 1) else slots m) 0
 
@@ -74,11 +74,11 @@ held (Needs (ApplyPointer peek operator left) ∷ k) = left ∷ held k
 held (Needs Decide ∷ k) = held k
 held (Needs CountElements ∷ k) = held k
 held (Needs (Store place) ∷ k) = held k
--- The address of the cell is held while the value to store is evaluated.
+-- The address of the cell stays in a slot while the value to store is evaluated.
 held (Needs (StoreCell peek place) ∷ k) = record { kind = kinds.NonNull; value = place } ∷ held k
 held (Needs (Pass callee before rest) ∷ k) = before ++ held k
 held (Needs (PlaceBy initial) ∷ k) = held k
--- The region handle is held while the initial values of the new object are evaluated.
+-- The region handle stays in a slot while the initial values of the new object are evaluated.
 held (Needs (BesideHandle region) ∷ k) = record { kind = kinds.Handle; value = Handle region } ∷ held k
 held (Needs (MakePlain owner kind) ∷ k) = held k
 held (Needs (MakeFields owner before fields) ∷ k) = before ++ held k
@@ -100,8 +100,8 @@ held (NeedsPlace (SwapRight kind peek true left) ∷ k) = record { kind = kinds.
 held (NeedsPlace a ∷ k) = held k
 held (entry ∷ k) = []
 
--- The intermediate values that are still held when a value is passed to the next evaluation step: all except a region
--- handle that only the new object needed.
+-- The intermediate values that are still in slots when a value is passed to the next evaluation step: all except a
+-- region handle that only the new object needed.
 abbrev pub kept : List Entry → List Kinded
 kept (Needs (BesideHandle region) ∷ k) = kept k
 kept k = held k
@@ -168,7 +168,8 @@ HasHandle t (InRegion region) word = slice_get t.handles region ≡ Some (Some w
 HasHandle t (Unique true) word = word ≡ UNIQUE
 HasHandle t (Unique false) word = ⊥
 
--- A record of the facts about a new object: its cells have these kinds, and they begin at this address.
+-- A record of the facts about a new object: its cells have the representation kinds `kinds` (int, char,
+-- pointer, ..), and they begin at the address `address`.
 pub record IsObject (t : Tables) (object address : ℕ) (kinds : List Kind) : Type 0 where
   pub row : slice_get t.rows object ≡ Some (Placed address kinds)
   pub range : InRange address kinds
@@ -197,8 +198,8 @@ pub record CallSlots : Type 0 where
   pub code : List Instruction
   pub base : ℕ
 
--- The row of a variable of this kind in the table of objects; the variable is in the slots from `slot` on. The variable has an address
--- if the code takes its address. The address of a char is that of the last byte of its word.
+-- The row, in the table of objects, of a variable that is in the slots from `slot` on. The variable has an address if the code takes
+-- its address. The address of a char is that of the last byte of its word.
 abbrev pub row_of : CallSlots → (slot : ℕ) → Kind → Row
 row_of s slot kind = if is_pinned s.code slot && nat_le slots_base s.base then Placed (s.base + 4 * slot + variable_bytes kind) (kind ∷ []) else Variable
 
@@ -206,7 +207,8 @@ row_of s slot kind = if is_pinned s.code slot && nat_le slots_base s.base then P
 abbrev pub IsCharAt : Tables → (object : ℕ) → Type 0
 IsCharAt t object = (address : ℕ) × (slice_get t.rows object ≡ Some (Placed address (kinds.Char ∷ [])))
 
--- The facts about the row of a local in the table of objects: it has the kind of the local's type, and its words fit in the local's slots.
+-- The facts about the row of a local in the table of objects: it has the representation kind (int, char, pointer, ..) of the local's type,
+-- and its words fit in the local's slots.
 pub record IsLocalRow (t : Tables) (types : Types) (s : CallSlots) (number object : ℕ) : Type 0 where
   pub kind : Kind
   pub room : HasRoom types number kind
@@ -224,8 +226,8 @@ pub record LocalsHold (t : Tables) (types : Types) (s : CallSlots) (objects : Li
       → Is t v.kind v.value slots (slot_of (starts_of types) number) × HasRoom types number v.kind
   pub small : (number object : ℕ) → locals number ≡ Some object → IsCharAt t object → slots (slot_of (starts_of types) number) < 256
 
--- The globals have these types, and each global has enough words and has its value in them. The words belong to the object of the
--- global. The word of a char is below 256.
+-- The globals have the types in `types`, and each global has enough words and has its value in them. The words are those of the
+-- object of the global. The word of a char is below 256.
 abbrev pub GlobalsHold : Tables → Types → List Object → Words → Type 0
 GlobalsHold t types objects words =
     (number : ℕ) → number < length types.globals
@@ -295,7 +297,7 @@ handling Continuing k = left_by true k
 handling (Returning v) k = left_by false k
 handling focus k = k
 
--- The indices of the regions of variables that the continuation frames name.
+-- The indices of the regions in which variables are declared, as far as continuation frames name these regions.
 abbrev pub homes : List Entry → List ℕ
 homes [] = []
 homes (CloseRegion region home ∷ k) = region ∷ home ∷ homes k

@@ -1,5 +1,5 @@
--- This file is about the targets of pointers. Each object with an address belongs to the heap store or is a global, and its
--- words are consecutive from one address on.
+-- This file is about the targets of pointers. Each object with an address is an object of the heap store or a global, and
+-- its words are consecutive from one address on.
 use Rattle.std.proofs.Common.{◌≡◌, ℕ, ◌+◌, ◌*◌, ◌<◌, ◌≤◌, List, [], ◌∷◌, length, Some, sym, ap, subst, ◌∙◌, inl, inr, arith}
 use Rattle.std.specs.Prelude.{◌⊎◌, slice_get, unwrap_or, ◌%◌, ◌^◌}
 use Rattle.cyc_types.specs.declared.typed.Kind.{Kind}
@@ -107,7 +107,7 @@ global_address {t} globals number r =
     = ap (λ n. add_of GLOBALS_BASE (mul_of n 4)) small ∙ (ap (add_of GLOBALS_BASE) product ∙ omega (arith, short)) in
     ap (λ n. add_of n (variable_bytes r.kind)) first ∙ omega (arith, short, kind_bytes r.kind)
 
--- A global has the kind of its cell.
+-- The row of a global in the table of objects has the representation kind (int, char, pointer, ..) of the global's cell.
 pub global_kind : {t : Tables} {globals : List Ty} {number offset word : ℕ} (r : IsGlobalRow t globals number) (points : Points t number offset word) {kind : Kind} → slice_get points.kinds offset ≡ Some kind → r.kind ≡ kind
 global_kind {t} {globals} {number} {offset} {word} r points {kind} there =
     let (address, kinds) = same-row points.row r.row in

@@ -1,4 +1,4 @@
--- This file is about the targets of pointers: a cell that exists belongs to the heap store, to a global, or to a local of an active call.
+-- This file is about the targets of pointers: a cell that exists is a cell of the heap store, a global, or a local of an active call.
 use Rattle.std.proofs.Common.{◌≡◌, ℕ, ◌+◌, ◌<◌, true, List, length, Option, Some, slice_get, inl, inr}
 use Rattle.cyc_types.specs.TypedTrees.{Program}
 use Rattle.cyc_store.specs.State.{StoreState}
@@ -23,8 +23,8 @@ pub data IsNamed (globals : ℕ) (locals : ℕ → Option ℕ) (outer : List Wai
   is_local : (number : ℕ) → locals number ≡ Some object → IsNamed globals locals outer object
   is_waiting : (i number : ℕ) → (x : Waiting) → slice_get outer i ≡ Some x → x.locals number ≡ Some object → IsNamed globals locals outer object
 
--- The invariants that the source program and the plain program each preserve: every live variable is named by a global or
--- by an active call, and calls do not overlap.
+-- The invariants that the source program and the plain program each preserve: every live variable is a global or a local
+-- of an active call, and the slots of two calls do not overlap.
 pub record AreNamed (source : Program) (locals : ℕ → Option ℕ) (outer : List Waiting) (w : World) (g base : ℕ) (frames : List Frame) (store : StoreState) : Type 0 where
   pub named : (t : Tables) → objects.Related t (silent w) store → (object : ℕ) (x : Object) → LiveVariable t (silent w) object x → IsNamed (length (global_types source.globals)) locals outer object
   pub lie : AreBelow (lower_program source) g base frames

@@ -1,5 +1,5 @@
--- Live variables stay named by a global or by an active call, and the slots of calls do not overlap. The
--- source program and the plain program each preserve these facts.
+-- Every live variable remains a global or a local of an active call, and the slots of calls do not
+-- overlap. The source program and the plain program each preserve these facts.
 use Rattle.std.proofs.Common.{◌≡◌, ℕ, zero, suc, ◌+◌, ◌<◌, ◌≤◌, true, false, List, [], ◌∷◌, length, Option, None, Some, is_some, slice_get, refl, sym, ap, subst, ◌∙◌, arith, inl, inr}
 use Rattle.std.proofs.lemmas.List.{length-map}
 use Rattle.std.proofs.lemmas.Option.{same_Some, none-some}
@@ -29,8 +29,8 @@ use Rattle.cyc_lower_proof.proofs.relation.simulation.Stacks.{code_of, types_at}
 use Rattle.cyc_lower_proof.proofs.relation.simulation.Shared.{silent}
 use Rattle.cyc_lower_proof.proofs.relation.places.Leads.{IsNamed, is_global, is_local, is_waiting, AreNamed}
 
--- If the source state has a waiting call with these locals, then the list of waiting calls has a call with the same locals at the same
--- index.
+-- The source state has a list of the locals of its waiting calls. If the locals `locals` are in this list, then the proof's list of
+-- waiting calls has a call with the same locals at the same index.
 waits : (k : List Entry) (call : ℕ) (locals : Locals) → slice_get (waiting k) call ≡ Some locals → (x : Waiting) × (slice_get (callers k) call ≡ Some x) × (x.locals ≡ locals)
 waits [] call locals at = absurd (none-some locals at)
 waits (Caller e ∷ k) zero locals at = (_, refl, same_Some e.locals locals at)

@@ -23,7 +23,7 @@ use Rattle.cyc_lower_proof.proofs.sizes.WellFormed.{function_takes}
 
 -- ---- the code of a function
 
--- Says that a slot belongs to a local all of whose slots have addresses.
+-- Says that a slot is one of the slots of a local, and that all slots of this local have addresses.
 pub record IsOfPinned (locals : List Ty) (code : List Instruction) (slot : ℕ) : Type 0 where
   pub number : ℕ
   pub of_type : Ty
@@ -56,7 +56,7 @@ module _ (locals : List Ty) where
         record { number = p.number; of_type = p.of_type; there = p.there; from = p.from; below = p.below; whole = λ other from below. or_right (pins i other) (is_pinned code other) (p.whole other from below) }
   ]
 
-  -- no slot belongs to two locals
+  -- no slot is a slot of two different locals
   same_local : (n m : ℕ) (t u : Ty) (slot : ℕ) → slice_get locals n ≡ Some t → slice_get locals m ≡ Some u → slot_in locals n ≤ slot → slot < slot_in locals n + words_of t
       → slot_in locals m ≤ slot → slot < slot_in locals m + words_of u → m ≡ n
   same_local n m t u slot at there from below from_other below_other = elim (cases_lt n m) [

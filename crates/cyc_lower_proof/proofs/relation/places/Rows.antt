@@ -126,7 +126,7 @@ module _ {t : Tables} {types : Types} {s : CallSlots} {number object offset word
       let address : ℕ = s.base + 4 * slot + variable_bytes r.kind in
       (address, placed ∙ ap (λ (i : Kind). Some (Placed address (i ∷ []))) char)
 
-  -- The kind in a local's row of the table of objects is the kind of the local's cell.
+  -- The representation kind (int, char, pointer, ..) in a local's row of the table of objects is that of the local's cell.
   pub local-kind : {kind : Kind} → slice_get points.kinds offset ≡ Some kind → r.kind ≡ kind
   local-kind {kind} there =
       let (address, kinds) = same-row points.row placed in

@@ -1,4 +1,4 @@
--- This file says how the plain program matches a step of the source, as far as all kinds of steps have it in common.
+-- This file states the facts that are common to all kinds of steps when the plain program matches a step of the source.
 use Rattle.std.proofs.Common.{◌≡◌, ◌≢◌, ℕ, suc, ◌≤◌, ◌<◌, Bool, true, false, List, [], ◌∷◌, length, Option, None, Some, slice_get, refl, sym, ap, subst, ◌∙◌, arith}
 use Rattle.std.specs.Prelude.{Contains, if◌then◌else◌}
 use Rattle.std.specs.List.{AllByRecursion}
@@ -84,8 +84,8 @@ module _ (source : Program) where
 
   -- ---- active calls
 
-  -- The calls on the source's control stack are one more than the plain machine's frames of waiting
-  -- calls, if the frames of the open handlers contain as many calls.
+  -- The calls among the continuation frames `k` are one more than the plain machine's frames of waiting calls. This holds if the
+  -- continuation frames `handled`, whose handlers are open, contain as many calls as `k`.
   counted_in : (t : Tables) (slots : Words) (handled k : List Entry) (e : Environment) (w : World) (c : Configuration) → calls_in handled ≡ calls_in k → DataFor source t slots handled k e w c → calls_in k ≡ suc (length c.frames)
   counted_in t slots handled k e w c same facts = sym same ∙ calls_counted source c.active.function slots c.active.handlers c.frames handled facts.1
 
@@ -280,7 +280,8 @@ module _ (source : Program) (pages calls : ℕ) where
       → IsMatched (Running focus k e w) (plain.Running c)
   by_one {focus} {k} {e} {w} {c} {next} {i} does shared at goes = by_one_seen does (shared_seen shared) at goes
 
-  -- A source step is matched by two instructions at any code positions; the configuration after the first instruction is given.
+  -- A source step is matched by two instructions at any code positions; the lemma takes the configuration after the first
+  -- instruction as an argument.
   pub by_two_places : {focus : Focus} {k : List Entry} {e : Environment} {w : World} {c : Configuration} {next : State} {i j : Instruction} (d : Configuration)
       → step source (Running focus k e w) ≡ next → SharedAt source pages calls k e w c
       → plain_step.is_within pages calls (plain.Running d) ≡ true → IsOnTheWay above below (Running focus k e w) (plain.Running d)
@@ -295,7 +296,7 @@ module _ (source : Program) (pages calls : ℕ) where
       (λ choice. subst (Executes (Running focus k e w) next (place_in d ∷ [])) (sym (first choice))
       (executes (Running focus k e w) next d j [] at_d (λ later. matches_within_below next (performed (lower_program source) later d j) (goes later)) way_d goes)))
 
-  -- A source step is matched by two instructions; the configuration after the first instruction is given.
+  -- A source step is matched by two instructions; the lemma takes the configuration after the first instruction as an argument.
   pub by_two_known : {focus : Focus} {k : List Entry} {e : Environment} {w : World} {c : Configuration} {next : State} {i j : Instruction} (d : Configuration)
       → step source (Running focus k e w) ≡ next → SharedAt source pages calls k e w c
       → plain_step.is_within pages calls (plain.Running d) ≡ true → IsOnTheWay above below (Running focus k e w) (plain.Running d)
@@ -316,7 +317,8 @@ module _ (source : Program) (pages calls : ℕ) where
   by_two {focus} {k} {e} {w} {c} {next} {i} {j} d does shared shared_d at first at_d other goes =
       by_two_known d does shared (shared_within k e w d shared_d) (shared_way focus k e w d shared_d) at first at_d other goes
 
-  -- A source step is matched by three instructions; the configurations after the first two are given.
+  -- A source step is matched by three instructions; the lemma takes the configurations after the first and the second instruction as
+  -- arguments.
   pub by_three : {focus : Focus} {k : List Entry} {e : Environment} {w : World} {c : Configuration} {next : State} {i j l : Instruction} (d f : Configuration)
       → step source (Running focus k e w) ≡ next → SharedAt source pages calls k e w c
       → plain_step.is_within pages calls (plain.Running d) ≡ true → IsOnTheWay above below (Running focus k e w) (plain.Running d)

@@ -1,5 +1,5 @@
--- This file matches a step of the source by several instructions. Each instruction except the last reaches a given configuration at a
--- later position of the code, and nothing is printed before the last instruction.
+-- This file matches a step of the source by several instructions. Each instruction except the last reaches a configuration that is
+-- stated in the path, at a later position of the code. Nothing is printed before the last instruction.
 use Rattle.std.proofs.Common.{◌≡◌, ◌≢◌, ℕ, suc, ◌<◌, true, List, [], ◌∷◌, ◌++◌, length, refl, sym, ap, subst, ◌∙◌, arith}
 use Rattle.std.specs.Prelude.{Contains, nat_le, ◌&&◌}
 use Rattle.std.specs.List.{AllByRecursion}

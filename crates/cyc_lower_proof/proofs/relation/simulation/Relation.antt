@@ -49,9 +49,9 @@ use Rattle.cyc_lower_proof.proofs.relation.simulation.Stacks.{CallAt, ValueStack
 module _ (source : Program) where
   -- ---- the focus
 
-  -- The value of the right operand is in an operand of the plain program, and the left operand is unchanged where it was. The code
-  -- from position p on uses both operands, and then executes the waiting continuation frames. A right operand may become the left
-  -- operand of the next operator, or the value of a chain.
+  -- The value of the right operand is in a slot or constant of the plain program, and the left operand is still in its slot or
+  -- constant. The code from position p on uses both operands, and then executes the waiting continuation frames. A right operand
+  -- may become the left operand of the next operator, or the value of a chain of operators.
   abbrev pub BesideAt : Tables → (ℕ → Option ℕ) → (g : ℕ) → Operand → (p : ℕ) → Words → List Frame → List Entry → Type 0
   BesideAt t locals g o p slots frames (Needs (Apply operator left) ∷ k) =
       (l : Operand) × IsIn t left slots l × IsLow l (top source g k)
@@ -190,8 +190,8 @@ module _ (source : Program) where
   abbrev pub SharedAt : (pages calls : ℕ) → List Entry → Environment → World → Configuration → Type 0
   SharedAt pages calls k e w c = SharedBy None pages calls k e w c
 
-  -- Says that a handler catches an exception at this code position: the instruction at this position opened
-  -- the handler, and the code of its clauses ends at the continuation.
+  -- Says that a handler catches an exception at the code position `index`: the instruction at this position
+  -- opened the handler. The code of the handler's clauses ends at the continuation.
   abbrev pub CatchesAt : (g : ℕ) → Clauses → (index : ℕ) → List Frame → List Entry → Type 0
   CatchesAt g handler index frames k =
       (exits : Exits) × (m : ℕ) × (p : ℕ) × (out : ℕ) × (q : ℕ) × At (code_of source g) index (instructions.Try (floor source g k) m)
@@ -220,7 +220,8 @@ module _ (source : Program) where
   abbrev pub DataIn : Tables → (slots : Words) → List Entry → Environment → World → Configuration → Type 0
   DataIn t slots k e w c = DataFor t slots k k e w c
 
-  -- The facts about the data of all calls, except for the slots of one local, whose earlier words are given.
+  -- The facts about the data of all calls, except for the slots of one local: there the facts hold of
+  -- earlier words instead of the words now in these slots.
   abbrev pub DataBut : Tables → (n words : ℕ) → List Entry → Environment → World → Configuration → Type 0
   DataBut t n words k e w c = (old : Words) × ((m : ℕ) → Outside n words m → old m ≡ c.active.slots m) × DataIn t old k e w c
 
@@ -255,9 +256,9 @@ module _ (source : Program) where
     following_call : (kind : Kind) → (o : Operand) → DataIn t c.active.slots k e w c → ValueStack source c.active.function e.locals kind o c.active.next c.frames k → ProceedingAt t k e w c
     following_wrong : (kind : Kind) → (n : ℕ) → calls_in k ≡ suc (length c.frames) → AheadStack source c.active.function e.locals kind n c.active.next c.frames k → ProceedingAt t k e w c
 
-  -- An exception reaches the newest handler by one instruction, or ends the plain program, while the source leaves one continuation
-  -- frame after the other. The plain program stays at the throw until the source reaches the handler. The newest handler belongs to
-  -- the call whose continuation frames the source leaves (`a`), or to the waiting calls (`rest`).
+  -- An exception reaches the newest handler by one instruction, or ends the plain program, while the source removes its
+  -- continuation frames one by one. The plain program stays at the throw until the source reaches the handler. The newest handler
+  -- was opened by the call whose continuation frames the source removes (`a`), or by one of the waiting calls (`rest`).
   abbrev pub CaughtBy : Activation → List Frame → List Entry → Type 0
   CaughtBy a rest [] = (a.handlers ≡ []) × (rest ≡ [])
   CaughtBy a rest (entry ∷ k) = HandlersStand a.function a.slots a.handlers rest (entry ∷ k)

@@ -9,7 +9,7 @@ use Rattle.cyc_memory_relation.specs.inside.Related as objects
 use Rattle.cyc_memory_relation.specs.inside.Related.{scopes, closed_to}
 use Rattle.cyc_meaning.specs.State.{World, globals_number}
 
--- Holds if all regions of the list belong to variables and have no handle.
+-- Holds if all regions of the list are regions in which variables are declared and have no handle.
 abbrev pub AreOfVariables : Tables → List ℕ → Type 0
 AreOfVariables t [] = Unit {0}
 AreOfVariables t (region ∷ regions) = (slice_get t.handles region ≡ Some None) × AreOfVariables t regions

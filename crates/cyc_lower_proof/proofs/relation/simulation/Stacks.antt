@@ -100,7 +100,7 @@ module _ (source : Program) where
   abbrev pub base_of : ℕ → ℕ
   base_of g = words_of_all (types_at g).locals
 
-  -- The kind of the result of an expression in function g.
+  -- The representation kind (int, char, pointer, ..) of the result of an expression in function g.
   abbrev pub given_at : ℕ → Expression → Kind
   given_at g a = given (bounds_at g).functions a
 
@@ -164,8 +164,8 @@ module _ (source : Program) where
   abbrev pub IsOutside : Exits → Type 0
   IsOutside exits = (exits.in_loop ≡ nothing_opened) × (exits.in_function ≡ nothing_opened)
 
-  -- Says that the code moves a value to slot d. Slot d is a temporary, from `free` on, or it belongs to a local that is about to be
-  -- assigned.
+  -- Says that the code moves a value to slot d. Slot d is a temporary, from `free` on, or it is a slot of a local that is about to
+  -- be assigned.
   pub data Lands (base free d words : ℕ) (temporary ahead : Type 0) : Type 0 where
     in_temporary : free ≤ d → temporary → Lands base free d words temporary ahead
     in_local : d + words ≤ base → ahead → Lands base free d words temporary ahead
@@ -194,7 +194,8 @@ module _ (source : Program) where
       × StatementAt (code_of g) (bounds_at g) (types_at g) body exits t b p
       × ((f : ℕ) × BranchesAt (code_of g) (bounds_at g) (types_at g) condition f b t p × ((f ≡ q) ⊎ At (code_of g) f (instructions.Jump q))) × (break_target exits < q)
 
-  -- Says that the code at p is the statement that a condition chooses, followed by the code for the continuation frames.
+  -- Says that the code at p is the branch of an `if` statement that its condition selects, followed by the code for the
+  -- continuation frames.
   abbrev pub ChosenAt : (g t : ℕ) → (first second : Statement) → (waits : Exits → (q : ℕ) → Type 0) → (fails : Bool) → (p : ℕ) → Type 0
   ChosenAt g t first second waits true p =
       (exits : Exits) × (q : ℕ) × StatementAt (code_of g) (bounds_at g) (types_at g) second exits t p q × waits exits q
@@ -221,8 +222,8 @@ module _ (source : Program) where
   abbrev pub IsPlaceOf : (ℕ → Option ℕ) → Lvalue → Value → Type 0
   IsPlaceOf locals l place = (object : ℕ) × (place ≡ Thin object 0) × (object_of (record { locals = locals; home = 0; counters = λ level. None }) l ≡ Some object)
 
-  -- Says that the code stores an operand (a slot or constant) in a variable of this kind. Afterwards the stored value is
-  -- available in another operand.
+  -- Says that the code stores an operand (a slot or constant) in a variable of representation kind `kind` (int, char,
+  -- pointer, ..). Afterwards the stored value is available in another operand.
   abbrev pub StoreAt : (g : ℕ) → Kind → Lvalue → (from to : Operand) → (p q : ℕ) → Type 0
   StoreAt g kind (Local w n) from to p q =
       At (code_of g) p (move_of (words_of_kind kind) (slot_of (starts_at g) n) from) × (p + 1 ≡ q) × (to ≡ operands.Slot (slot_of (starts_at g) n))
@@ -254,7 +255,7 @@ module _ (source : Program) where
       × (x.place ≡ Thin object offset) × IsSideAt t locals slots a s object offset × Is t x.operand.kind x.operand.value slots v
       × WritesAt t locals g slots writes r q
 
-  -- Holds if function g returns a value of this kind.
+  -- Holds if function g returns a value of representation kind `kind` (int, char, pointer, ..).
   abbrev pub IsReturned : (g : ℕ) → Kind → Type 0
   IsReturned g kind = (results_of (bounds_at g).result ≡ words_of_kind kind) × (kind ≡ returned_at g)
 
@@ -419,7 +420,8 @@ module _ (source : Program) where
         × ExchangeAt (code_of g) (bounds_at g) (types_at g) kind a (CellSide y) (floor g k) m q × StatementStack g exits q frames k
     PlaceStack g locals o c p frames k = ⊥
 
-    -- Says that the code from position p on executes the continuation frames after a condition that is known to fail or to hold.
+    -- Says that the code from position p on executes the continuation frames after a condition whose outcome, failing or
+    -- holding, is decided.
     pub DecidedStack : (g : ℕ) → (fails : Bool) → (p : ℕ) → List Frame → List Entry → Type 0
     DecidedStack g fails p frames (Needs (Chain operations) ∷ k) =
         TestsAt (code_of g) (bounds_at g) (types_on g k) operations fails (top g k) p (λ fails q. DecidedStack g fails q frames k)
@@ -472,7 +474,8 @@ module _ (source : Program) where
     StatementStack g exits p frames (Main ∷ k) = (s : ℕ) × At (code_of g) p (instructions.Finish s) × IsOutside exits × IsLast frames k
     StatementStack g exits p frames k = ⊥
 
-  -- Says that the code from position p on executes the continuation frames after a condition, which fails if this comparison holds.
+  -- Says that the code from position p on executes the continuation frames after a condition, which fails if the comparison
+  -- `failing` of two operands holds.
   abbrev pub ConditionStack : (g : ℕ) → Comparison → (l r : Operand) → (p : ℕ) → List Frame → List Entry → Type 0
   ConditionStack g failing l r p frames k = Forks (code_of g) (bounds_at g) (types_on g k) failing l r p (λ fails q. DecidedStack g fails q frames k)
 

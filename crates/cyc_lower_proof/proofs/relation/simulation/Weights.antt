@@ -7,9 +7,9 @@ use Rattle.cyc_types.specs.TypedTrees.{OpenRegion, DeclareAlias, Move, Peek, The
 use Rattle.cyc_types.specs.TypedTrees as typed
 use Rattle.cyc_meaning.specs.State.{Awaiting, Chain, Pass, PlaceBy, MakeFields, Initialise, OpenBy, AliasOf, Entry, Needs, Rest, Loop, Focus, Evaluating, Locating, Executing, Entering, Binding, State, Running, AwaitingPlace, StoreTo, NeedsPlace, SwapLeft, Writing, Catching, Index}
 
--- An expression that is an operand may have no code. The weight of an expression, a measure for source steps without plain instructions,
--- exceeds that of its first subexpression with the continuation frame. A test by `&&` or `||` whose outcome is decided has no weight; in
--- an undecided test, the first operand needs no weight.
+-- An expression whose value is in a slot or constant may have no code. The weight of an expression, a measure for source steps without
+-- plain instructions, exceeds that of its first subexpression with the continuation frame. In this measure, a test by `&&` or `||` whose
+-- outcome is decided has the weight 0; in an undecided test, the first operand adds no weight.
 abbrev mutual
   pub expression_weight : Expression → ℕ
   expression_weight (Number n) = 1

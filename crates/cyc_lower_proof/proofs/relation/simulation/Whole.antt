@@ -205,7 +205,7 @@ module _ (source : Program) (pages calls : ℕ) (well_typed : AreWellTypedGlobal
       let stepped = of_uniform (lower_program source) (no_enter source typed_words) pages calls old new uniform in
       (words_stay (lower_program source) pages calls 1 old new of_words words (new, stepped, refl), below_step (lower_program source) pages calls old new lie stepped)
 
-  -- Says that regions are nested and that every live variable is named by a global or by an active call.
+  -- Says that regions are nested and that every live variable is a global or a local of an active call.
   abbrev Named : State → Type 0
   Named s = NestsAndNames (length source.globals) s
 

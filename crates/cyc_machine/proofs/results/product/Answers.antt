@@ -5,7 +5,7 @@ use Rattle.std.proofs.lemmas.Int.{to_z-of_z}
 use Rattle.cyc_isa.specs.Effect.{product_of}
 use Rattle.cyc_machine.proofs.results.product.Goals as goal
 
--- The code's 64-bit multiplication gives the bits of the product of two words.
+-- The 64-bit multiplication in the Rattle code gives the bits of the exact signed product of two machine words.
 bits_of_product : (a b bits : ℕ) (x y p q : ℤ) → FitsSigned w32 x → FitsSigned w32 y → FitsSigned w64 p → FitsSigned w64 q → FitsSigned w64 (p *ℤ q) → x ≡ cast_signed w32 a → y ≡ cast_signed w32 b → p ≡ cast_signed w32 (cast_unsigned w32 x) → q ≡ cast_signed w32 (cast_unsigned w32 y) → bits ≡ cast_unsigned w64 (cast_signed w64 (cast_unsigned w64 (cast_signed w64 (cast_unsigned w64 p) *ℤ cast_signed w64 (cast_unsigned w64 q)))) → bits ≡ product_of a b
 bits_of_product a b bits x y p q fx fy fp fq fpq ex ey ep eq e =
     let px : p ≡ x = ep ∙ to_z-of_z w32 x fx in

@@ -1,4 +1,4 @@
--- Proves the law that regions nest.
+-- Proves the law that the regions of blocks and lexical regions nest, that is, are closed in the reverse order of their opening.
 use Rattle.cyc_meaning.proofs.Nested.{nests_run, only_accesses_die}
 use Rattle.cyc_meaning.proofs.laws.regions_nest.Goals as goal
 

@@ -1,4 +1,5 @@
--- The proof of the law that a request is served unless the store (heap of regions) refuses it, or the run ends if memory is lacking.
+-- The proof of the law about requests that the store (heap of regions) does not refuse: each is served, or the run ends if the store
+-- lacks memory.
 use Rattle.cyc_plain.proofs.Steps.{step_serves, step_full}
 use Rattle.cyc_plain.proofs.laws.calls_are_served.Goals as goal
 

@@ -75,7 +75,7 @@ release_spec 𝓤 𝓛 𝓜 𝓡 wired A L g d dd met md =
     move ! (1 ∷ []) $ fsplit ! $ drop ! $ rewrite ! 0 (λ (u : A.Denot × ℕ × Ptr). ‵ (g.dealloc_token u.0 (words_type u.1) u.2)) (λ i. (asked.4 i, asked.3 i, (asked.2 ∙ at) i)) refl $
     move ! (2 ∷ []) $ use1 𝓛 (‵ (seen Y κ handle h)) (id⊢ 𝓤 _) $ move ! (3 ∷ []) $ use1 𝓛 (‵ (flft κ q) ⊛ ‵ (flft z.0.0.1.0 z.0.1.1.0) ⊛ ‵ ftrue) (id⊢ 𝓤 _) $ split ! $ move ! (2 ∷ 0 ∷ []) $ join ! $ move ! (3 ∷ 2 ∷ []) $
     -- The proof's resources at this point: the uninitialised space; the right to free it; the handle with its lifetime
-    -- token; the other tokens.
+    -- token; the other lifetime tokens.
     let few = s.few in let short : n < 2 ^ 32 = subst (λ m. m < 2 ^ 32) asked.1 s.few in let bytes : n * 4 < 2 ^ 64 = omega (arith, short) in
     let y = at_gives Y 𝓛 𝓜.mem 𝓡.returns κ q handle h b o (n * 4) 4 τ in
     regoal ! (λ (us : List Val). prop (WpFn 𝓤 H C Λ fn us Post)) (λ i. are.0.0 i ++ ((start_reported p vss.1.0 are.1.0 ∙ ap (λ (r : Ptr). start_val r ∷ []) at) i ++ (are.1.1.0.0 i ++ (cells_reported vss.1.1.1.0 are.1.1.1.0.0 i ++ (lease_reported vss.1.1.1.1.0 are.1.1.1.1.0.0 i ++ []))))) refl $

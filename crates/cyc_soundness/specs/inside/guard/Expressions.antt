@@ -12,7 +12,7 @@ abbrev pub KeepsUse : Guard → Lvalue → (before following : Held) → Type 0
 KeepsUse p (Local at n) f g = IsUsable p n f × IsAtLeast f g
 KeepsUse p (Global n) f g = IsAtLeast f g
 
--- The rule for storing a value in a variable.
+-- The flow rule for storing a value in a variable.
 abbrev pub KeepsAssignment : Guard → Lvalue → (before following : Held) → Type 0
 KeepsAssignment p (Local at n) f g = IsAssignable p n f × IsAtLeast (with_held true f n) g
 KeepsAssignment p (Global n) f g = IsAtLeast f g
@@ -39,7 +39,7 @@ abbrev mutual
   Keeps p (Store d c t) f g = (h : Held) × KeepsPlace p d f h × KeepsConverted (peeking (peek_after d) p) c h g
   Keeps p (New w i t) f g = (h : Held) × KeepsPlacement p w f h × KeepsInitial p i h g
 
-  -- The rule for a memory access through a pointer.
+  -- The flow rule for a memory access through a pointer.
   pub KeepsPlace : Guard → Dereference → (before following : Held) → Type 0
   KeepsPlace p (Target k a t) f g = Keeps p a f g
   KeepsPlace p (Member k a s m t) f g = Keeps p a f g

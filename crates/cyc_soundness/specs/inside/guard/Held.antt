@@ -1,6 +1,6 @@
 -- This file defines the set of locals that are known to hold a value at a program point, in the form for proofs about runs. A lent local
--- still holds its value: loans nest like blocks, so they belong to the enclosing scope and not to this set. Joins lose no information
--- about loans, and each exit from a block ends the block's loans.
+-- still holds its value: loans nest like blocks, so the enclosing scope records the loans, and this set of locals does not. Joins lose
+-- no information about loans, and each exit from a block ends the block's loans.
 use Rattle.std.specs.Prelude.{◌≡◌, ℕ, Bool, true, false, nat_eq, if◌then◌else◌, Option, Some, None}
 
 pub data Held : Type 0 where
@@ -36,8 +36,8 @@ pub record Guard : Type 0 where
   -- The locals that enclosing declarations and statements have lent to the end of their blocks: such locals are neither
   -- peeked at (read without being moved), used nor assigned.
   pub locked : ℕ → Bool
-  -- The locals that were read early (peeked at) and whose read values are not yet used. Until then, the code may only read these
-  -- locals again without moving their values.
+  -- The locals that were read early (peeked at) and whose read values are not yet used. Until the read value of a peeked local
+  -- is used, the code may only read this local again without moving its value.
   pub peeked : ℕ → Bool
 
 abbrev pub nowhere : ℕ → Bool
@@ -80,8 +80,8 @@ IsSpared p n (Holds f) = p.relied n ≡ false
 
 -- ---- catches
 
--- Says that the catch clauses of a `try` may rely on the values of the locals r. They include the locals on which an enclosing `catch`
--- relies, and each of them holds a value at the start of the `try`.
+-- Says that the catch clauses of a `try` may rely on the values of the locals r. The locals r include those on which an enclosing
+-- `catch` relies; each of the locals r holds a value at the start of the `try`.
 abbrev pub IsReliable : Guard → (ℕ → Bool) → Held → Type 0
 IsReliable p r Never = Unit {0}
 IsReliable p r (Holds f) = ((n : ℕ) → p.relied n ≡ true → r n ≡ true) × ((n : ℕ) → r n ≡ true → f n ≡ true)

@@ -46,7 +46,7 @@ abbrev pub KeepsDeclaration : Guard → ℕ → Option Converted → (before fol
 KeepsDeclaration p n None f g = IsSpared p n f × IsAtLeast (with_held false f n) g
 KeepsDeclaration p n (Some c) f g = (h : Held) × KeepsConverted p c f h × IsAtLeast (with_held true h n) g
 
--- The rule for a declaration or statement that lends one local and declares another.
+-- The flow rule for a declaration or statement that lends one local and declares another.
 abbrev pub KeepsLoan : Guard → (declared lent : ℕ) → (before following : Held) → Type 0
 KeepsLoan p n m f g = IsSeen p m f × IsAtLeast (with_held true f n) g
 

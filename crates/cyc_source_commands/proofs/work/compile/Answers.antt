@@ -11,7 +11,8 @@ use Rattle.cyc_cli.specs.inside.Limits.{Given, carried_by}
 use Rattle.cyc_source_commands.specs.inside.Work.{AnswersCompile}
 use Rattle.cyc_source_commands.proofs.work.compile.Goals as goal
 
--- If the compiler accepts or rejects a text, its result is the command's answer; an image has the limits it was compiled with.
+-- If the compiler accepts or rejects a text, its result is the command's answer; an image contains the limits on pages and
+-- calls with which it was compiled.
 answered : (text : List ℕ) (given : Given) (result : Result Compilation Fault)
     → Decides (IsCompiledText text) (λ p made. IsImageOf p made.image.items) (IsRefusedAtLast text) (HasFaultAtLast text) result
     → IfOk result (λ made. Carries made.image.items (carried_by given.pages given.calls)) → IfOk result (λ made. HasTokens text made.tokens.items)

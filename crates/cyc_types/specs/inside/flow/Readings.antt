@@ -1,5 +1,5 @@
 -- The flow rules in their usual form: premises and a conclusion. The premises of a rule value compute to a statement about trees and states
--- of locals. Each lemma in this file states the rule of its name as such a statement, and `refl` proves it.
+-- of locals. Each lemma in this file states one flow rule by its premises and its conclusion, and `refl` proves the lemma.
 use Rattle.std.specs.Prelude.{◌≡◌, ◌⊎◌, ℕ, true, not, ◌&&◌, List, [], ◌∷◌, ◌++◌, Some, refl}
 use Rattle.cyc_words.specs.declared.fault.Code.TheVariants as codes
 use Rattle.cyc_words.specs.declared.fault.Fault.{Fault}
@@ -50,7 +50,8 @@ module _ (q : List ℕ) where
       → Derives (rule_operations q (ThenTest o a os) f) h ≡ ((g : State) × Derives (rule q a f) g × Derives (rule_operations q os (meet f g)) h)
   tested o a os f h = refl
 
-  -- evaluating the elements of an array must leave each local at least as full as before, because the array may have no element
+  -- evaluating the elements of an array must leave each local at least as full (free, borrowed or perhaps empty) as before the
+  -- elements, because the array may have no element
   elements : (p : Place) (l : ℕ) (n : Expression) (k : Kind) (a : Expression) (f g : State)
       → Derives (rule_initial q (Array p l n k a) f) g
       ≡ ((head : State) × Derives (rule q n f) head × ((h : State) × Derives (rule q a head) h × (((is_at_least h head ≡ true) × Unit {0}) × (g ≡ head))))
@@ -89,7 +90,8 @@ module _ (c : Around) where
       ≡ (((is_at_least (with_each Full ks f) l.head ≡ true) × Unit {0}) × (m ≡ record { now = Unreached; breaks = b }))
   continues l ks f b m = refl
 
-  -- a catch clause begins with the state at the `try`, except that the locals that the body consumes, assigns or lends out are empty
+  -- a catch clause begins with the state at the `try`, except that the locals that the body of the `try` consumes, assigns or lends
+  -- out are empty
   clauses : (s : Statement) (cs : Clauses) (f b : State) (m : Known)
       → Derives (rule_statement c (Try s cs) (record { now = f; breaks = b })) m
       ≡ ((k : Known) × Derives (rule_statement c s (record { now = f; breaks = b })) k × Derives (rule_clauses c (emptied (touched_statement s []) f) cs k) m)

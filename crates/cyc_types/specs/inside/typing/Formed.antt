@@ -1,5 +1,5 @@
--- The regions in the declared types of a program. The type of a local mentions only regions declared before the local. The type of a global
--- mentions no region variable. The type of a field mentions only the region parameters of its struct. No type of a field refers to a region
+-- The regions in the declared types of a program. The type of a local contains only regions declared before the local. The type of a global
+-- contains no region variable. The type of a field contains only the region parameters of its struct. No type of a field contains a region
 -- that is declared later. No field of a struct is a key. The choice of these conditions on declared types is this project's own choice.
 use Rattle.std.specs.Prelude.{◌≡◌, ℕ, suc, ◌+◌, ◌<◌, false, List, [], ◌∷◌}
 use Rattle.cyc_types.specs.declared.region.Region.{Region}

@@ -1,5 +1,5 @@
 -- The typing rules of the whole language in their usual form: premises and a conclusion. The premises of a rule value compute to a
--- statement about trees. Each lemma in this file states the rule of its name as such a statement, and `refl` proves it.
+-- statement about trees. Each lemma in this file states one typing rule by its premises and its conclusion, and `refl` proves the lemma.
 use Rattle.std.specs.Prelude.{◌≡◌, true, not, nat_eq, ◌&&◌, List, ◌++◌, Option, Some, length, refl}
 use Rattle.cyc_words.specs.declared.fault.Code.TheVariants as codes
 use Rattle.cyc_words.specs.declared.fault.Fault.{Fault}

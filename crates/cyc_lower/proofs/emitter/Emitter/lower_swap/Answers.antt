@@ -10,7 +10,8 @@ use Rattle.cyc_lower.specs.inside.Emission.{most_locals, view_starts}
 use Rattle.cyc_lower.proofs.emission.ExpressionEmitting.{room_for_right}
 use Rattle.cyc_lower.proofs.emitter.Emitter.lower_swap.Goals as goal
 
--- If a swap's left operand is a memory cell, its address takes a slot and some code, so the next slot is within the limit.
+-- If a swap's left operand is a memory cell, its address takes a slot and some code. So the index of the slot after the
+-- address is within the limit of slot indices.
 right_room : (starts : Starts) (a : Side) (old new : List Instruction) (t : ℕ) → t ≤ most_locals + length old → new ≡ old ++ side_code starts a (length old) t
     → right_slot a t ≤ most_locals + length new
 right_room starts (VariableSide l ty) old new t low made = omega (arith, low, length-append old [], ap (λ (l : List Instruction). length l) made)

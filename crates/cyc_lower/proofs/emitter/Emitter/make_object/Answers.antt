@@ -2,7 +2,7 @@ use Rattle.std.proofs.Common.{arith}
 use Rattle.cyc_lower_proof.proofs.slots.CellBytes.{bytes_within}
 use Rattle.cyc_lower.proofs.emitter.Emitter.make_object.Goals as goal
 
--- If values take at most as many slots as a block has words, the number of their bytes in cells is within the limit.
+-- If an object's values take at most as many slots as a block has words, their number of bytes in cells is within the limit for objects.
 pub bytes_of_kinds-requires : goal.bytes_of_kinds-requires
 bytes_of_kinds-requires c = omega (arith, bytes_within c.args.kinds.now 0 0 (omega arith), c.requires.slots, c.if-words.false)
 

@@ -31,7 +31,8 @@ pool-is pool taken owned filled last n first second third fourth fifth =
     (third ∙ ap (λ (p : PoolState). record p { owners = set p.owners 0 0 })
     (second ∙ ap (λ (p : PoolState). record p { free = set p.free 0 false; chains = set p.chains 0 (0 ∷ []) }) first)))
 
--- The rows of the page table after the steps that create the table.
+-- The rows of the page table (each the data of one page) after the steps that create the table: all
+-- pages are made, page 0 is taken, and the heap begins in it.
 links-are : (new made taken last : Links) (n : ℕ) → new ≡ no_links → made ≡ after new (Made n) → taken ≡ after made (Taken 0) → last ≡ after taken (Began 0 Heap)
     → last ≡ after (after (after no_links (Made n)) (Taken 0)) (Began 0 Heap)
 links-are new made taken last n first second third fourth =

@@ -57,8 +57,8 @@ write_spec 𝓤 𝓛 𝓜 𝓡 wired =
     enter ! _ _ _ _ _ $ alloc_all ! (λ l. pass_all ! refl ((tt, tt), (start_typed p, ((tt, record { fits = are.1.1.0.1 }), ((tt, record { fits = are.1.1.1.0.1 }), tt)))) $
     -- The proof's resources at this point: the reference; the lifetime token.
     fsplit3 ! $ move ! (1 ∷ 2 ∷ 3 ∷ []) $ opens ! tt R {h = h} b o (λ us.
-    -- The proof's resources at this point: the struct's cell; the owned parts; the open borrow, as three resources; the reference's
-    -- first part.
+    -- The proof's resources at this point: the struct's cell; the resources that the struct owns; the open borrow, as three
+    -- resources; the reference's first part.
     move ! (1 ∷ []) $ fsplit ! $ move ! (1 ∷ []) $ in_a_block ! h.at (λ q. places_at q h.slots) (id⊢ 𝓤 (never 𝓤)) (λ b' o' e.
     let few = h.few in let far : i * 4 < 2 ^ 64 = omega (arith, few, asked.1) in let at = i * 4 + o' in
     let new : R.Denot = record { at = h.at; slots = set h.slots i (Some w); few = subst (λ k. k < 2 ^ 32) (sym (length-set h.slots i (Some w))) h.few } in
