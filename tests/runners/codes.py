@@ -26,8 +26,8 @@ FAULTS = os.path.join(suite.ROOT, "crates", "cyc_words", "src", "fault.rt")
 ADVICE = os.path.join(suite.ROOT, "crates", "cyc_cli", "src", "advice.rt")
 NAMED = os.path.join(suite.ROOT, "crates", "cyc_rendering", "src", "named.rt")
 PAGES = os.path.join(suite.ROOT, "crates", "cyc_cli", "src", "pages.rt")
-# The documentation pages about the codes of refusals, by page. For each page: the first code number
-# after those that the page describes, and a description of its codes.
+# The parts of the documentation about the codes, each a file of the program with the pages of many codes. For each part: the first code
+# number after those whose pages the part contains, and a description of its codes.
 PARTS = {
     "syntax": (20, "the codes of tokens and of the grammar"),
     "types": (40, "the codes of the typing rules"),

@@ -344,7 +344,8 @@ module _ (program simplified : Program) (replaced : (function : ℕ) → IsRepla
         goes choice c i at holds handling waiting next new led
         (subst (λ (facts : List Fact). AreTrueIn new (kept (written program i) (touched pins i) facts)) (sym ((replaced c.active.function).is_table.tries c.active.next first handler at)) tt) tt
 
-    -- The facts known after an instruction are true if the instruction writes to a slot a word about which nothing is known.
+    -- The facts known after an instruction are true if the instruction writes a word to a slot, and if the facts that the instruction
+    -- establishes are true.
     gets_any : (i : Instruction) → here_at i → (d : Configuration) (destination word : ℕ) → IsAlike c d → d.active.slots ≡ put words destination word
         → leads i c.active.next (c.active.next + 1) ≡ true → written program i ≡ record { first = destination; count = 1 } → touched pins i ≡ touched_by pins destination
         → IsMade (scene_of program d) pins i c.active.next (c.active.next + 1) → AreTrueIn (scene_of program d) (facts_in c.active.function (c.active.next + 1))

@@ -44,8 +44,8 @@ pub fn compile(alloc: Global, text: &[u8], limits: GivenLimits) -> Result<Compil
     compile_with_tokens(alloc, text, limits.carried())
 }
 
-/// Compiles a source text to an image. For each machine word of the image, also returns the source position in the text from
-/// which the machine word was compiled.
+/// Compiles a source text to an image. For each machine word of the image's code, also returns where the word comes from: a source position,
+/// the code that runs before `main`, or the code that raises a function's built-in exceptions.
 pub fn compile_placed(alloc: Global, text: &[u8], limits: GivenLimits) -> Result<Placed, Fault>
     // A text with a fault is never compiled.
     ensures refuses { (fault : Fault) → HasFaultAtLast text.now fault

@@ -1,5 +1,5 @@
-//! This file finds the file names among the words of a command line. Several file names may follow a command, and several may
-//! follow the option `--with`.
+//! This file finds the file names among the words of a command line. Several file names may follow the commands `check`, `bound` and
+//! `format`, and several may follow the option `--with`.
 use std::alloc::{AllocError, Global};
 
 /// Returns true if the command with this name accepts several files.
