@@ -500,13 +500,19 @@ def try_signals(room):
         folder = room.path(f"ended{number}")
         os.mkdir(folder)
         words = [JUDGE, "--program", room.program, "-j", "2", *STEPS, "--seconds", "50", room.loop, *[room.empty] * 3]
-        process = subprocess.Popen(words, env={**os.environ, "TMPDIR": folder}, stdout=subprocess.DEVNULL, stderr=subprocess.PIPE)
+        process = subprocess.Popen(
+            words, env={**os.environ, "TMPDIR": folder}, stdout=subprocess.DEVNULL, stderr=subprocess.PIPE, preexec_fn=heed_hangup)
         wait_for(lambda: len(running_in(folder)) == 2)
         begun = len(running_in(folder))
         process.send_signal(number)
         _, said = process.communicate(timeout=LONG)
         got = begun, process.returncode, said, os.listdir(folder), running_in(folder)
         yield f"ended by {number.name}", (2, -number, b"", [], []), got
+
+
+def heed_hangup():
+    """Lets a program be ended by SIGHUP, also where the tests themselves run under nohup."""
+    signal.signal(signal.SIGHUP, signal.SIG_DFL)
 
 
 def running_in(folder):
