@@ -11,6 +11,7 @@ pub mod Chains
 -- These modules have lemmas for the laws of the crate.
 pub mod Preservation
 pub mod KeepingUp
+pub mod BoundedRuns
 pub mod Asking
 -- a worked example
 pub mod ReadsFirst

@@ -16,9 +16,13 @@ ghost use Rattle.cyc_types.specs.TypedTrees.{Program};
 ghost use Rattle.cyc_meaning.specs.Sizes.{size_per_weight, max_start_words};
 ghost use Rattle.cyc_types.specs.Texts.{IsOfTextProgram};
 ghost use Rattle.cyc_meaning.specs.SourceMachine.{seen_of};
+ghost use Rattle.cyc_soundness.specs.Sound.{IsSound};
 ghost use Rattle.cyc_front.specs.Front.{IsAcceptedText};
 ghost use Rattle.cyc_compiler.specs.FullPreservation.{limited, DoesTheSame, IsAhead, AreAlike, PrintAlike, IsLoadable, IsImageOf, text_words};
 ghost use Rattle.cyc_compiler.specs.Asking.{RunWithin, AsksAtTheEnd};
+ghost use Rattle.cyc_compiler.specs.Needs.{AreBounds};
+ghost use Rattle.cyc_compiler.specs.BoundedRuns.{Covers, Suffices, IsNotFull, HasOwnEnd};
+ghost use Rattle.cyc_compiler.specs.declared.bounded.Bounds as needs;
 
 /// The program of an accepted text has properties beyond the typing rules. In the program of an accepted text, structs have from 1 to 64
 /// fields, and the indices of exceptions are 32-bit words. Each chain of pointer arithmetic is written separately.
@@ -87,4 +91,19 @@ pub fn asks_only_what_is_asked()
         → AllByRecursion (λ b. b < 256) input → b < 256
         → (count : ℕ) (w : World) → RunWithin count (start_world image limits store input) w → AsksAtTheEnd w
         → (k : ℕ) × (seen_of (limited p limits (input ++ b ∷ []) k) ≡ showing w.output []) }
+{}
+
+/// The bounds of a program hold for every run of its image. If the limits of a run are at least the bounds on calls and pages, the run is
+/// never full. If there is also a bound on steps, then a run of (steps + 1) * T instructions has ended, T being the image's code words:
+/// `main` has returned, or an exception was not caught.
+pub fn bounded_images_end()
+    ensures never_full { (p : Program) (image : ImageContents) (bounds : needs.Bounds) → DoesTheSame p image → AreBounds p bounds
+        → (limits : Bounds) (store : StoreState) (input : List ℕ) → AreAllowed limits.pages limits.calls → IsNew limits.pages store
+        → AllByRecursion (λ b. b < 256) input → Covers bounds limits
+        → (count : ℕ) (w : World) → Run count (start_world image limits store input) w → IsNotFull w }
+    ensures ends { (p : Program) (image : ImageContents) (bounds : needs.Bounds) → DoesTheSame p image → AreBounds p bounds → IsSound p
+        → (limits : Bounds) (store : StoreState) (input : List ℕ) → AreAllowed limits.pages limits.calls → IsNew limits.pages store
+        → AllByRecursion (λ b. b < 256) input → Covers bounds limits
+        → (count : ℕ) (w : World) → Suffices bounds.steps (text_words image) count
+        → Run count (start_world image limits store input) w → HasOwnEnd w }
 {}

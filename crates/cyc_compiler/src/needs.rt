@@ -52,10 +52,10 @@ pub fn bounds_with_tokens(alloc: Global, text: &[u8]) -> Result<Bounded, Fault>
 ///
 /// The front end runs first, and its faults are returned. If the compiler itself runs out of memory, that is another error.
 pub fn bounds(alloc: Global, text: &[u8]) -> Result<Bounds, Fault>
-    // The bound on calls is the length of the longest chain of calls from `main`: no run has more active calls. Hence no run ends for lack
-    // of calls if its limit on calls is at least this bound (`calls_stay_within` of `cyc_bound`). If there is no bound on calls, then the
-    // reported cycle of calls is a cycle. The bounds on pages and steps come from the costs of the functions. No run ends for lack of pages
-    // if its limit on pages is at least the bound on pages (`pages_stay_within`). Each run ends within the bound on steps (`steps_end`).
+    // For every input, no state of the program's run has more active calls than the bound on calls states, none needs more pages than the
+    // bound on pages states, and the run has ended after as many steps as the bound on steps states. The bound on calls is the length of
+    // the longest chain of calls from `main`. If there is no bound on calls, then the reported cycle of calls is a cycle. The bounds on
+    // pages and steps come from the costs of the functions. The law `bounded_images_end` says what the bounds mean for an image.
     ensures decides { Decides (IsAcceptedText text.now) AreBounds (IsRefusedText text.now) (HasFault text.now) result }
 {
     let program = accept(alloc, text)?;

@@ -3,10 +3,9 @@ use crate::bounds::{Needs, Remedies, words_by};
 use crate::formatting::format_text;
 use crate::programs::read_program;
 use crate::telling::{Source, print_of, report_refusal, say_of, tell_refusal, tell_warnings};
-use crate::work::{check, compile, compile_placed, widen_heap};
-use cyc_bound::{CallBound, PageBound};
+use crate::work::{check, compile, compile_placed, own_limits, widen_heap};
 use cyc_cli::{FileName, GivenLimits};
-use cyc_compiler::{Bounds, Placed, bounds, bounds_with_tokens};
+use cyc_compiler::{Placed, bounds_with_tokens};
 use cyc_format::format;
 use cyc_host::{
     Answer, Output, Screen, is_one_file, name_of_file, read_text, will_be_one_file, write_file,
@@ -130,16 +129,6 @@ fn refuse_files(rt: &HostRuntime, source: &str, outputs: Outputs<'_>) -> Result<
     Ok(())
 }
 
-/// Returns the run limits that follow from a program's bounds, if both the calls and the pages have a bound.
-fn limits_by(bounds: &Bounds) -> Option<GivenLimits> {
-    match (&bounds.calls, &bounds.pages) {
-        (CallBound::Calls { count: calls }, PageBound::Pages { count: pages }) => {
-            GivenLimits::for_needs(*pages, *calls as u64)
-        }
-        _ => None,
-    }
-}
-
 /// Reports what a program that lacks a bound needs: calls, pages and steps.
 fn tell_needs(rt: &HostRuntime, source: Source<'_>) -> Answer {
     match bounds_with_tokens(rt.alloc(), source.text) {
@@ -161,12 +150,10 @@ fn tell_needs(rt: &HostRuntime, source: Source<'_>) -> Answer {
 }
 
 /// Returns the run limits that follow from a program's own bounds, or reports why the program has no bounds.
-fn own_limits(rt: &HostRuntime, source: Source<'_>) -> Result<GivenLimits, Answer> {
-    match bounds(rt.alloc(), source.text) {
-        Ok(needed) => match limits_by(&needed) {
-            Some(limits) => Ok(limits),
-            None => Err(tell_needs(rt, source)),
-        },
+fn limits_or_needs(rt: &HostRuntime, source: Source<'_>) -> Result<GivenLimits, Answer> {
+    match own_limits(rt.alloc(), source.text) {
+        Ok(Some(limits)) => Ok(limits),
+        Ok(None) => Err(tell_needs(rt, source)),
         Err(fault) => Err(tell_refusal(rt, source, fault)),
     }
 }
@@ -195,7 +182,7 @@ pub fn compile_file(
     };
     widen_heap(rt.alloc());
     let limits = if auto {
-        own_limits(rt, source)?
+        limits_or_needs(rt, source)?
     } else {
         limits
     };

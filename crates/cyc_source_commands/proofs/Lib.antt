@@ -1,0 +1,2 @@
+-- the limits that follow from a program's bounds
+pub mod LimitsFrom
