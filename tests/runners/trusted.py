@@ -36,6 +36,8 @@ CALLS = (
     ("p", "PageStore", "cyc_pagestore", None),
     ("e", "read_image", "cyc_elf", None),
     ("f", "format", "cyc_format", None),
+    ("n", "bounded_images_end", "cyc_compiler", None),
+    ("w", "bounded_programs_run", "cyc_system", None),
 )
 # The crates with definitions in `specs/` that public contracts use.
 PUBLIC = ("cyc_front", "cyc_image", "cyc_compiler", "cyc_emulator", "cyc_system", "cyc_machine_model", "cyc_machine", "cyc_store", "cyc_elf", "cyc_isa", "cyc_format", "cyc_bound")
