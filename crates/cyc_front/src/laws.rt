@@ -1,8 +1,11 @@
 //! Laws of the definitions in `specs/`. Each function in this file has an empty body, and its contract states one law, which is proved
 //! with the crate.
 
-ghost use Rattle.std.specs.Prelude.{◌≡◌, List, ℕ};
+ghost use Rattle.std.specs.Prelude.{◌≡◌, ◌↔◌, IsTrue, List, ℕ};
 ghost use Rattle.cyc_words.specs.declared.fault.Fault.{Fault};
+ghost use Rattle.cyc_types.specs.declared.region.Region.{Region};
+ghost use Rattle.cyc_types.specs.Outlives.{RegionContext, OutlivesIn};
+ghost use Rattle.cyc_types.specs.Closure.{HasNoUnique, is_outliving};
 ghost use Rattle.cyc_types.specs.TypedTrees.{Program};
 ghost use Rattle.cyc_soundness.specs.Sound.{IsSound};
 ghost use Rattle.cyc_front.specs.Front.{IsAcceptedText, IsRefusedText};
@@ -26,3 +29,9 @@ pub fn accepted_programs_are_sound()
 {
     cyc_soundness::laws::typed_programs_are_sound();
 }
+
+/// The test of regions that the typing rules compute decides the outlives relation, if the unique region occurs in no constraint and is
+/// not the region of an open scope.
+pub fn outlives_is_decided()
+    ensures { (c : RegionContext) (a b : Region) → HasNoUnique c → IsTrue (is_outliving c a b) ↔ OutlivesIn c a b }
+{}
