@@ -1,5 +1,5 @@
 -- This file is about runs of the machine that request no byte after the end of their input, up to the first request beyond it. The
--- output and the remaining input do not show if a run requests a byte beyond its input.
+-- output and the remaining input do not show if a run requests a byte beyond its input. These definitions are this project's own choice.
 use Rattle.std.specs.Prelude.{◌≡◌, ◌≢◌, ℕ, zero, suc, []}
 use Rattle.cyc_machine_model.specs.declared.event.Event.{Event}
 use Rattle.cyc_machine_model.specs.declared.event.Event.TheVariants.{WantsByte}
