@@ -1,5 +1,5 @@
 #!/usr/bin/env python3
-"""Compares docs/TRUSTED.md with the definitions that the contracts of the public calls use: the files that an auditor must read.
+"""Compares docs/TRUSTED.md with the definitions that the contracts of the public calls and the laws use: the files that an auditor must read.
 
     python3 tests/runners/trusted.py [--write]
 
@@ -7,8 +7,9 @@ A contract uses the definitions that its clauses name, by the `ghost use` lines 
 the traits in its signature, and all definitions that these files use in turn. A path through `specs.declared` or `specs.contracts` names a
 file of `src`, whose types and constants are read there, as are the types and traits of the signature. --write generates the tables of
 docs/TRUSTED.md. The first comment of each such file must name a public source, or say that the file is this project's own choice. A file of
-`specs` outside `specs/inside` must be used by such a contract. The definitions of `compile` have a limited size. The last line is `N
-passed, M failed`, of calls, files, crates and that limit.
+`specs` outside `specs/inside` must be used by such a contract. The definitions of `compile` have a limited size, in files and by name
+(`meant.py`). The page has a paragraph for each call and each law, a line for each name of the library that is meant, and each sign that
+occurs in what is meant. The last line is `N passed, M failed`, of calls, laws, files, crates, names, signs and that limit.
 """
 import argparse
 import functools
@@ -16,7 +17,8 @@ import os
 import re
 import sys
 
-import suite
+import suite  # first: it makes the tools importable
+import meant
 
 PAGE = os.path.join(suite.ROOT, "docs", "TRUSTED.md")
 CRATES = os.path.join(suite.ROOT, "crates")
@@ -36,9 +38,9 @@ CALLS = (
     ("p", "PageStore", "cyc_pagestore", None),
     ("e", "read_image", "cyc_elf", None),
     ("f", "format", "cyc_format", None),
-    ("n", "bounded_images_end", "cyc_compiler", None),
-    ("w", "bounded_programs_run", "cyc_system", None),
 )
+# The crates whose laws have rows and paragraphs on the page, each with the symbol that stands for them in the tables.
+LAWS = (("a", "cyc_front"), ("b", "cyc_bound"), ("l", "cyc_image"), ("l", "cyc_compiler"), ("s", "cyc_system"))
 # The crates with definitions in `specs/` that public contracts use.
 PUBLIC = ("cyc_front", "cyc_image", "cyc_compiler", "cyc_emulator", "cyc_system", "cyc_machine_model", "cyc_machine", "cyc_store", "cyc_elf", "cyc_isa", "cyc_format", "cyc_bound")
 # Results of the front end that the program uses only for its messages; docs/TRUSTED.md promises
@@ -54,9 +56,15 @@ SOURCES = (
     ("own choice", r"own choice"),
 )
 INSIDE = "inside"
-# The maximum numbers of definition files and lines that a reader must read to trust `compile`.
-MOST_FILES, MOST_LINES = 81, 9_700
-CALL_TABLE = "| Call | Mark | Files | Lines | Files of types | Lines |\n|---|---|---|---|---|---|\n"
+# The maximum numbers that a reader must read to trust `compile`: of files of definitions, of their lines, and of the lines of those
+# definitions in them that are meant by name.
+MOST_FILES, MOST_LINES, MOST_BY_NAME = 81, 9_600, 5_550
+CALL_TABLE = "| Call | Mark | Files | Lines | By name | Files of types | Lines |\n|---|---|---|---|---|---|---|\n"
+LAW_TABLE = "| Law | Crate | Mark | Files | Lines | By name | Files of types | Lines |\n|---|---|---|---|---|---|---|---|\n"
+# The heads of the section and of the table that are written by hand: the signs of definitions, and the names of the library.
+SIGNS, NAMES = "## How a definition is read\n", "| Name | What it is |\n|---|---|\n"
+SIGN = re.compile(r"[^\w\s\"'(){},;`◌]+|λ")
+KEYWORDS = ("abbrev", "unfoldable", "data", "record", "where", "let", "in")
 FILE_TABLE = "| File | Lines | Calls | What it says | Source |\n|---|---|---|---|---|\n"
 TYPE_TABLE = "| File | Lines | Calls | What is read there |\n|---|---|---|---|\n"
 
@@ -145,6 +153,19 @@ class Reading:
     def __init__(self):
         self.specs = set()
         self.types = {}
+        self.meaning = meant.Meaning(content, target_of)
+        # The texts of the contracts themselves.
+        self.texts = []
+
+    def mean(self, path, names):
+        """Adds what a contract names of a `use` line: the files, and the definitions by name."""
+        self.add(path, names)
+        file, rest = target_of(path)
+        if file and file.endswith(".antt"):
+            self.meaning.add(file, [re.split(" as ", name)[0] for name in names] or rest)
+        elif file is None and names and meant.LIBRARY.match(path):
+            for name in names:
+                self.meaning.library.setdefault(re.split(" as ", name)[0], path)
 
     def add(self, path, names):
         """Adds the target of a `use` line, and all that the target uses."""
@@ -237,14 +258,15 @@ def without_comments(text):
 def read_names(reading, text, file, extra=""):
     """Adds the definitions of the names in a text, by the `ghost use` lines of its file and of the enclosing block."""
     words = set(re.findall(r"(?<![\w.'])[\w'-]+", without_comments(text)))
+    reading.texts.append(without_comments(text))
     for path, names, name in uses_of("\n".join(source(file).named("ghost use")) + "\n" + extra):
         if name:
             if name in words:
-                reading.add(path, names)
+                reading.mean(path, names or re.findall(rf"\b{name}\.([\w'-]+)", text))
         else:
             taken = [part for part in names if re.split(" as ", part)[-1] in words]
             if taken:
-                reading.add(path, taken)
+                reading.mean(path, taken)
 
 
 def read_contract(reading, signature, file, crate, seen, block=""):
@@ -291,6 +313,7 @@ def read_traits(reading, crate, name, seen):
             read_type(reading, rust_uses(source(file).text).get(trait) or crate, trait, seen)
 
 
+@functools.lru_cache(maxsize=None)
 def reading_of(name, crate, owner=None):
     """Returns the definitions that a public call uses; for a type, those of its public methods."""
     reading, seen = Reading(), set()
@@ -340,6 +363,9 @@ def public_reading():
 
 def merge(reading, more):
     reading.specs |= more.specs
+    reading.texts += more.texts
+    reading.meaning.reached.update(more.meaning.reached)
+    reading.meaning.library.update(more.meaning.library)
     for file, names in more.types.items():
         reading.types.setdefault(file, set()).update(names)
 
@@ -383,12 +409,32 @@ def sources_of(head):
     return [name for name, words in SOURCES if re.search(words, head, re.I)]
 
 
+def laws_of(crate):
+    """Returns the names of a crate's laws, in the order of their file."""
+    return re.findall(r"(?m)^pub fn (\w+)\(", content(os.path.join(CRATES, crate, "src", "laws.rt")))
+
+
+@functools.lru_cache(maxsize=None)
+def law_reading(name, crate):
+    reading, file = Reading(), os.path.join(CRATES, crate, "src", "laws.rt")
+    item = next(item for item in source(file).items if re.match(rf"pub fn {name}\(", item))
+    read_contract(reading, signature_of(item), file, crate, set())
+    return reading
+
+
+def figures(reading):
+    """Returns the cells of a row that say how much is read."""
+    lines, types = sum(map(lines_of, reading.specs)), sum(map(lines_of, reading.types))
+    return f"{len(reading.specs)} | {lines:,} | {reading.meaning.count():,} | {len(reading.types)} | {types:,} |"
+
+
 def tables():
-    """Returns the three tables of the page, and the reading of each call."""
+    """Returns the four tables of the page that are made, and the reading of all calls and laws."""
     readings = [(mark, owner and f"{owner}::{name}" or name, reading_of(name, crate, owner)) for mark, name, crate, owner in CALLS]
-    calls = "".join(
-        f"| `{name}` | {mark} | {len(reading.specs)} | {sum(map(lines_of, reading.specs)):,} | {len(reading.types)} | {sum(map(lines_of, reading.types)):,} |\n"
-        for mark, name, reading in readings)
+    calls = "".join(f"| `{name}` | {mark} | {figures(reading)}\n" for mark, name, reading in readings)
+    of_laws = [(mark, name, crate) for mark, crate in LAWS for name in laws_of(crate)]
+    laws = "".join(f"| `{name}` | `{crate}` | {mark} | {figures(law_reading(name, crate))}\n" for mark, name, crate in of_laws)
+    readings += [(mark, name, law_reading(name, crate)) for mark, name, crate in of_laws]
     marks = list(dict.fromkeys(mark for mark, _, _ in readings))
     union = Reading()
     for _, _, reading in readings:
@@ -405,7 +451,38 @@ def tables():
     for file in sorted(union.types, key=lambda file: (crates().index(crate_of(file)), file)):
         names = ", ".join(f"`{name}`" for name in sorted(union.types[file]))
         types += f"| `{named(file)}` | {lines_of(file)} | {needed(file)} | {names} |\n"
-    return [(CALL_TABLE, calls), (FILE_TABLE, files), (TYPE_TABLE, types)], union
+    return [(CALL_TABLE, calls), (LAW_TABLE, laws), (FILE_TABLE, files), (TYPE_TABLE, types)], union
+
+
+def section_of(page, head):
+    start = page.index(head) + len(head)
+    return page[start:].split("\n## ")[0]
+
+
+def signs_of(reading):
+    """Returns the signs and the keywords in the definitions that a reading means, and in the clauses of the contracts."""
+    texts = ["\n".join(definition.lines) for definition in reading.meaning.reached.values()]
+    clauses = [clause for text in reading.texts for clause in re.findall(r"(?s)\bensures\b.*", text)]
+    plain = re.sub(r'"(?:[^"\\]|\\.)*"', "", "\n".join(texts + clauses))
+    return set(SIGN.findall(plain)) | {word for word in KEYWORDS if re.search(rf"(?m)^ *(?:abbrev )?(?:pub )?{word}\b|\b{word} ", plain)}
+
+
+def faults_of_words(page, union):
+    """Returns what the page lacks of what is written by hand: paragraphs of calls and laws, signs, and names of the library. Returns how
+    many of these are there too."""
+    told = set(re.findall(r"\*\*`([\w:]+)", page))
+    calls = [owner and f"{owner}::{name}" or name for _, name, _, owner in CALLS] + [name for _, crate in LAWS for name in laws_of(crate)]
+    faults = [f"docs/TRUSTED.md has no paragraph on {name}" for name in calls if name not in told]
+    shown = " ".join(re.findall(r"`+([^`]+)`+", section_of(page, SIGNS).replace("\\|", "|")))
+    signs = sorted(signs_of(union))
+    faults += [f"docs/TRUSTED.md does not say how {sign} is read" for sign in signs if sign not in shown.split() and sign not in SIGN.findall(shown)]
+    start, end = table_in(page, NAMES)
+    # In a table a bar has a stroke before it.
+    rows = {name.replace("\\|", "|") for row in page[start:end].splitlines() for name in re.findall(r"`([^`]+)`", row.split(" | ")[0])}
+    wanted = {name for name in union.meaning.library}
+    faults += [f"docs/TRUSTED.md has no line on {name} of {union.meaning.library[name]}" for name in sorted(wanted - rows)]
+    faults += [f"docs/TRUSTED.md has a line on {name}, which is not meant" for name in sorted(rows - wanted)]
+    return faults, len(calls) + len(signs) + len(wanted | rows) - len(faults)
 
 
 def table_in(page, head):
@@ -419,11 +496,11 @@ def table_in(page, head):
 
 def strangers():
     """Returns the files of `specs` outside `inside` that no public contract uses, and the files in `inside` that one uses."""
-    meant = public_reading().specs
+    used = public_reading().specs
     for crate in crates():
         for file in spec_modules(crate):
             within = f"{os.sep}specs{os.sep}{INSIDE}{os.sep}" in file
-            if (file in meant) == within:
+            if (file in used) == within:
                 yield file, within
 
 
@@ -458,11 +535,15 @@ def main():
     wrong = list(strangers())
     faults += [f"{named(file)} {'is meant by a public contract, and stands inside' if within else 'is meant by no public contract'}" for file, within in wrong]
     passed += sum(all(crate_of(file) != crate for file, _ in wrong) for crate in crates())
-    meant = reading_of("compile", "cyc_compiler").specs
-    if len(meant) <= MOST_FILES and sum(map(lines_of, meant)) <= MOST_LINES:
+    lacking, there = faults_of_words(page, union)
+    faults, passed = faults + lacking, passed + there
+    reading = reading_of("compile", "cyc_compiler")
+    read = len(reading.specs), sum(map(lines_of, reading.specs)), reading.meaning.count()
+    if all(one <= most for one, most in zip(read, (MOST_FILES, MOST_LINES, MOST_BY_NAME))):
         passed += 1
     else:
-        faults.append(f"compile means {len(meant)} files, {sum(map(lines_of, meant))} lines; at most {MOST_FILES} and {MOST_LINES} are to be read")
+        faults.append("compile means {} files, {} lines, {} of them by name; ".format(*read)
+                      + f"at most {MOST_FILES}, {MOST_LINES} and {MOST_BY_NAME} are to be read")
     for fault in faults:
         print(f"FAILED {fault}")
     print(f"{passed} passed, {len(faults)} failed")
