@@ -43,9 +43,9 @@ case "$*" in
 esac
 """
 # The total of the results that the stand-in for Python prints. The total has 1 passed for the proofs, 10 for the
-# cases, 3 for the codes, 4 for memory, and 1 for each of twenty-two other tests. The failures are those that the
+# cases, 3 for the codes, 4 for memory, and 1 for each of twenty-three other tests. The failures are those that the
 # stand-in SAYING prints.
-ADDED = "43 passed, 5 failed"
+ADDED = "44 passed, 5 failed"
 
 # Case files that contain a mistake, each with the fault that the reader of case files must report
 # for it.

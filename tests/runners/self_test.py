@@ -1,9 +1,9 @@
 #!/usr/bin/env python3
 """Tests the tests' own tools, mostly on stand-ins for the program. The runners of cases and of images pass and fail as they should. The
 gate's cost table has the sums computed by hand from given samples of processes. Wrong bodies are tried or skipped as their record says, and
-the prover's answers are judged correctly. Only pairs of programs with equal output have figures, and the right ones. Wrong documents and
-sessions are found. The growth of costs is judged correctly. A random program with a planted difference is minimized to a small one that
-shows it. The reference passes the cases in tests/whole, and those of the program that check texts.
+the prover's answers are judged correctly. Only pairs of programs with equal output have figures, and the right ones. Wrong documents, false
+claims in them, and wrong sessions are found. The growth of costs is judged correctly. A random program with a planted difference is
+minimized to a small one that shows it. The reference passes the cases in tests/whole, and those of the program that check texts.
 
     python3 tests/runners/self_test.py [TEXTS.json]
 
@@ -20,6 +20,7 @@ import tempfile
 import unittest.mock
 
 import suite  # first: it makes the references and the generators importable
+import claims_tried
 import differential
 import documents
 import facts
@@ -526,7 +527,7 @@ def main():
     with tempfile.TemporaryDirectory() as folder:
         right = [is_runner_right(folder), is_judge_of_images_right(folder), are_dialogs_judged(folder)]
         right += [are_drifts_found(), are_sessions_tried(folder), are_lemmas_told_apart(folder), are_long_imports_found()]
-        right += [is_reading_watched(folder), *wrong_tried.tried(folder)]
+        right += [is_reading_watched(folder), *claims_tried.tried(), *wrong_tried.tried(folder)]
         right += figures_tried.tried(folder)
         right += needs.tried(folder, os.path.join(folder, "stand_in"))
         right.append(reference.with_room(lambda: is_shrinker_right(folder)))
