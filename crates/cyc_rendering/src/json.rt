@@ -273,6 +273,18 @@ fn name_of(warning: Warning) -> &'static str {
         Warning::NeverRead => "NeverRead",
         Warning::NeverGivenBack => "NeverGivenBack",
         Warning::HiddenCharacter => "HiddenCharacter",
+        Warning::SelfCompared => "SelfCompared",
+        Warning::SelfAssigned => "SelfAssigned",
+        Warning::NotCompared => "NotCompared",
+        Warning::ShiftOfSum => "ShiftOfSum",
+        Warning::NeverBoth => "NeverBoth",
+        Warning::AlwaysOne => "AlwaysOne",
+        Warning::DanglingElse => "DanglingElse",
+        Warning::MisleadingIndent => "MisleadingIndent",
+        Warning::HidesLocal => "HidesLocal",
+        Warning::SameCondition => "SameCondition",
+        Warning::KeyNeverFreed => "KeyNeverFreed",
+        Warning::UnchangedCondition => "UnchangedCondition",
     }
 }
 

@@ -116,6 +116,14 @@ pub(crate) fn is_past_width(expression: &Expr) -> bool {
     is_more_than(expression, WIDTH - 1)
 }
 
+/// Returns true if an expression is a constant that is at least 0 and less than the width of an int.
+pub(crate) fn is_shift_count(expression: &Expr) -> bool {
+    match constant_of(expression) {
+        Some(value) => value < WIDTH,
+        None => false,
+    }
+}
+
 /// Returns true if an expression is a constant that is negative or greater than `most`.
 pub(crate) fn is_more_than(expression: &Expr, most: u32) -> bool {
     match constant_of(expression) {

@@ -1,8 +1,10 @@
 //! This file finds warnings in expressions and their subexpressions.
-use crate::constants::{constant_of, is_more_than, is_past_width};
+use crate::constants::{constant_of, is_more_than, is_past_width, is_shift_count};
 use crate::finder::Finder;
+use crate::intervals::are_never_both;
 use crate::locals::{Local, Use};
 use crate::places::{is_next, leading_minus, minus_of, span_of};
+use crate::sameness::are_same;
 use crate::shapes::{CHAR, INT, Shape};
 use crate::warning::Warning;
 use cyc_syntax::{
@@ -55,6 +57,19 @@ pub(crate) fn is_bare(expression: &Expr) -> bool {
             _ => true,
         },
         Expr::Binary { rest, .. } => !is_quotient(rest),
+        _ => false,
+    }
+}
+
+/// Returns true if an expression computes a value that is its only purpose, even if a part of the expression has an effect.
+pub(crate) fn is_lost(expression: &Expr) -> bool {
+    match expression {
+        Expr::Bracketed { inner, .. } => is_lost(inner),
+        Expr::Prefixed { .. } | Expr::NumberOfElements { .. } | Expr::LowByteOf { .. } => true,
+        Expr::Binary { rest, .. } => match rest.last() {
+            Some(operation) => !is_logical(operation.operator),
+            None => false,
+        },
         _ => false,
     }
 }
@@ -204,6 +219,41 @@ fn shape_of_result(first: Option<Shape>, rest: &[Operation]) -> Option<Shape> {
         },
         _ => Some(INT),
     }
+}
+
+/// Returns true if the count of a shift is a sum without parentheses that begins with a constant, as if that were the count.
+fn is_loose_count(count: &Expr) -> bool {
+    match count {
+        Expr::Binary { first, rest } => match rest.first() {
+            Some(operation) => {
+                operation.operator == BinaryOperator::Add
+                    && is_shift_count(first)
+                    && constant_of(count).is_none()
+            }
+            None => false,
+        },
+        _ => false,
+    }
+}
+
+/// Returns true if an expression is `!` and its operand, without parentheses around them.
+fn is_negation(expression: &Expr) -> bool {
+    matches!(
+        expression,
+        Expr::Prefixed {
+            operator: PrefixOperator::Not,
+            ..
+        }
+    )
+}
+
+/// Returns true if an expression may be compared with a truth value.
+fn is_like_truth(expression: &Expr) -> bool {
+    is_truth(expression)
+        || match constant_of(expression) {
+            Some(value) => value <= 1,
+            None => false,
+        }
 }
 
 fn is_sum(operator: BinaryOperator) -> bool {
@@ -463,10 +513,50 @@ impl Finder {
         if is_more_than(value, LARGEST_CHAR) && self.is_char(target) {
             self.warn(span_of(value), Warning::CharConstant);
         }
+        if are_same(target, value) {
+            self.warn(span_of(target), Warning::SelfAssigned);
+        }
         if let Some(name) = named(target) {
             if !is_null(value) {
                 self.fill(name);
             }
+        }
+    }
+
+    // ---- conditions of loops
+
+    /// Watches the locals on which an expression depends. Returns true if only assignments to these can change the expression's value.
+    pub(crate) fn watch(&mut self, expression: &Expr) -> bool {
+        match expression {
+            Expr::Number { .. } | Expr::Character { .. } | Expr::Null { .. } => true,
+            Expr::Variable { name } => {
+                let is_local = self.is_local(*name);
+                if is_local {
+                    self.locals.watch(self.known.local(name.name.number));
+                }
+                is_local
+            }
+            Expr::Bracketed { inner, .. } => self.watch(inner),
+            Expr::NumberOfElements { pointer, .. } => self.watch(pointer),
+            Expr::LowByteOf { value, .. } => self.watch(value),
+            Expr::Prefixed {
+                operator,
+                operand,
+                ..
+            } => {
+                !matches!(
+                    operator,
+                    PrefixOperator::Dereference | PrefixOperator::AddressOf
+                ) && self.watch(operand)
+            }
+            Expr::Binary { first, rest } => {
+                let mut is_steady = self.watch(first);
+                for operation in rest {
+                    is_steady = self.watch(&operation.operand) && is_steady;
+                }
+                is_steady
+            }
+            _ => false,
         }
     }
 
@@ -522,6 +612,25 @@ impl Finder {
             left = None;
         }
         self.look_at_bits(first, rest);
+        self.look_at_pairs(first, rest);
+    }
+
+    /// Searches the operands of `&&` or `||` for neighbours that are settled by each other.
+    fn look_at_pairs(&mut self, first: &Expr, rest: &[Operation]) {
+        let mut before = first;
+        for operation in rest {
+            let (span, operand) = (operation.span, &operation.operand);
+            match operation.operator {
+                BinaryOperator::AndThen if are_never_both(before, operand, true) => {
+                    self.warn(span, Warning::NeverBoth);
+                }
+                BinaryOperator::OrElse if are_never_both(before, operand, false) => {
+                    self.warn(span, Warning::AlwaysOne);
+                }
+                _ => {}
+            }
+            before = operand;
+        }
     }
 
     fn look_at_bits(&mut self, first: &Expr, rest: &[Operation]) {
@@ -542,6 +651,8 @@ impl Finder {
             BinaryOperator::ShiftLeft | BinaryOperator::ShiftRight => {
                 if is_past_width(operand) {
                     self.warn(span, Warning::ShiftCount);
+                } else if is_loose_count(operand) {
+                    self.warn(span, Warning::ShiftOfSum);
                 }
             }
             BinaryOperator::Divide | BinaryOperator::Remainder => {
@@ -557,12 +668,23 @@ impl Finder {
             BinaryOperator::OrElse | BinaryOperator::AndThen => self.look_at_truths(left, operand),
             operator if is_comparison(operator) => {
                 if let Some(left) = left {
-                    if self.is_settled(left, operand) || self.is_settled(operand, left) {
-                        self.warn(span, Warning::CharCompared);
-                    }
+                    self.look_at_comparison(span, left, operand);
                 }
             }
             _ => {}
+        }
+    }
+
+    /// Searches a comparison for warnings.
+    fn look_at_comparison(&mut self, span: Span, left: &Expr, right: &Expr) {
+        if self.is_settled(left, right) || self.is_settled(right, left) {
+            self.warn(span, Warning::CharCompared);
+        }
+        if are_same(left, right) && constant_of(left).is_none() {
+            self.warn(span, Warning::SelfCompared);
+        }
+        if is_negation(left) && !is_like_truth(right) {
+            self.warn(span_of(left), Warning::NotCompared);
         }
     }
 

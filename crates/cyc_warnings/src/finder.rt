@@ -1,7 +1,7 @@
 //! This file has the state of the traversal of a program: the meaning of names, the uses of locals, and the warnings found.
 use crate::known::Known;
 use crate::locals::{Local, Locals, Use};
-use crate::shapes::{OTHER, Shape};
+use crate::shapes::{KEY, OTHER, Shape};
 use crate::warning::{Findings, Found, Warning};
 use cyc_syntax::{Block, Ident, Member, ParameterList, Parameters, Tree, WrittenType};
 use cyc_words::Span;
@@ -17,6 +17,8 @@ pub(crate) struct Finder {
     pub(crate) gives_char: bool,
     /// The number of calls, assignments, allocations and deallocations in the expressions examined so far.
     pub(crate) effects: usize,
+    /// The number of statements so far that may leave a loop: `return`, `break` and `throw`.
+    pub(crate) exits: usize,
 }
 
 impl Finder {
@@ -28,6 +30,7 @@ impl Finder {
             found: Findings::new(alloc),
             gives_char: false,
             effects: 0,
+            exits: 0,
         }
     }
 
@@ -99,8 +102,20 @@ impl Finder {
                 }
             }
         }
+        self.end_loops();
         self.locals.clear();
         self.known.unbind(0);
+    }
+
+    /// Adds the warnings about loops whose conditions do not change, at the end of their function.
+    fn end_loops(&mut self) {
+        for i in 0..self.locals.idle.len() {
+            if let Some(idle) = self.locals.idle.get(i).copied() {
+                if !self.locals.is_any_taken(idle.first, idle.end) {
+                    self.warn(idle.span, Warning::UnchangedCondition);
+                }
+            }
+        }
     }
 
     // ---- locals
@@ -111,9 +126,24 @@ impl Finder {
         self.known.bind(name.name.number, number);
     }
 
-    /// Declares a local that is a region handle or a key of a dynamic region.
-    pub(crate) fn declare_other(&mut self, name: Ident) {
+    /// Declares a local that is a region handle.
+    pub(crate) fn declare_handle(&mut self, name: Ident) {
         self.declare(name, Local::new(name.span, OTHER));
+    }
+
+    /// Declares a local that is the key of a new dynamic region.
+    pub(crate) fn declare_key(&mut self, name: Ident) {
+        let mut local = Local::new(name.span, KEY);
+        local.is_filled = true;
+        self.declare(name, local);
+    }
+
+    /// Returns true if a local with this name is in scope.
+    pub(crate) fn is_local(&self, name: Ident) -> bool {
+        self.locals
+            .all
+            .get(self.known.local(name.name.number))
+            .is_some()
     }
 
     /// Records that the local with this name is used in the given way.

@@ -27,7 +27,7 @@ pub(crate) fn span_of(expression: &Expr) -> Span {
 }
 
 /// Returns the source position of a statement's first token.
-fn span_of_statement(statement: &Stmt) -> Span {
+pub(crate) fn span_of_statement(statement: &Stmt) -> Span {
     match statement {
         Stmt::Block { block } => block.span,
         Stmt::Labelled { label, .. } => label.span,

@@ -8,7 +8,9 @@ pub(crate) enum Base {
     Char,
     /// A struct, given by the number that identifies its name.
     Struct(usize),
-    /// A region handle, or the key of a dynamic region.
+    /// The key of a dynamic region.
+    Key,
+    /// A region handle.
     Other,
 }
 
@@ -45,7 +47,15 @@ pub(crate) const CHAR: Shape = Shape {
     home: Home::Other,
 };
 
-/// The shape of the type of a region handle or of a key.
+/// The shape of the type of the key of a dynamic region.
+pub(crate) const KEY: Shape = Shape {
+    base: Base::Key,
+    marks: 0,
+    is_fat: false,
+    home: Home::Other,
+};
+
+/// The shape of the type of a region handle.
 pub(crate) const OTHER: Shape = Shape {
     base: Base::Other,
     marks: 0,
@@ -60,7 +70,8 @@ impl Shape {
             BaseType::Int => Base::Int,
             BaseType::Char => Base::Char,
             BaseType::Struct { name, .. } => Base::Struct(name.name.number),
-            BaseType::Handle { .. } | BaseType::Key { .. } => Base::Other,
+            BaseType::Key { .. } => Base::Key,
+            BaseType::Handle { .. } => Base::Other,
         };
         let marks = written.marks.len();
         let mut shape = Shape {
@@ -82,6 +93,10 @@ impl Shape {
 
     pub(crate) fn is_char(self) -> bool {
         self.marks == 0 && matches!(self.base, Base::Char)
+    }
+
+    pub(crate) fn is_key(self) -> bool {
+        self.marks == 0 && matches!(self.base, Base::Key)
     }
 
     pub(crate) fn is_unique(self) -> bool {

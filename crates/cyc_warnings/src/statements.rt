@@ -1,8 +1,9 @@
 //! This file finds warnings in declarations and statements, and in the expressions in them.
 use crate::constants::constant_of;
-use crate::expressions::{is_bare, is_null};
+use crate::expressions::{is_bare, is_lost, is_null};
 use crate::finder::Finder;
-use crate::locals::{Local, Use};
+use crate::layout::{dangling, misleading, repeated};
+use crate::locals::{Idle, Local, Use};
 use crate::places::{span_of, span_of_item, span_of_leaving};
 use crate::shapes::{Home, INT, Shape};
 use crate::warning::Warning;
@@ -17,6 +18,25 @@ fn is_empty(item: &Item) -> bool {
             statement: Stmt::Empty { .. },
         }
     )
+}
+
+/// Returns true if the declarations and statements of a block are only semicolons.
+fn are_empty(items: &[Item]) -> bool {
+    for item in items {
+        if !is_empty(item) {
+            return false;
+        }
+    }
+    true
+}
+
+/// Returns true if a statement is only a semicolon, or a block of semicolons.
+fn is_blank(statement: &Stmt) -> bool {
+    match statement {
+        Stmt::Empty { .. } => true,
+        Stmt::Block { block } | Stmt::Labelled { block, .. } => are_empty(&block.items),
+        _ => false,
+    }
 }
 
 /// Returns the number of elements of the array that an expression creates.
@@ -62,7 +82,30 @@ impl Finder {
             }
         }
         self.known.unbind(depth);
+        self.look_at_layout(items);
         leaves
+    }
+
+    /// Searches the declarations and statements of a block for those that seem to belong to the statement before them.
+    fn look_at_layout(&mut self, items: &[Item]) {
+        let mut last = None;
+        for item in items {
+            if !is_empty(item) {
+                if let Some(last) = last {
+                    self.look_at_neighbours(last, item);
+                }
+                last = Some(item);
+            }
+        }
+    }
+
+    fn look_at_neighbours(&mut self, last: &Item, item: &Item) {
+        if let Item::Statement { statement } = last {
+            let place = span_of_item(item);
+            if let Some(head) = misleading(span_of_item(last), statement, place) {
+                self.warn_after(place, Warning::MisleadingIndent, head);
+            }
+        }
     }
 
     fn look_at_declaration(&mut self, item: &Item) {
@@ -80,13 +123,16 @@ impl Finder {
                     self.look_at_initial_value(shape, value);
                     self.fill_from(&mut local, value);
                 }
+                if self.is_local(*name) {
+                    self.warn(name.span, Warning::HidesLocal);
+                }
                 self.declare(*name, local);
             }
             Item::Region { handle, key, .. } => {
                 if let Some(key) = key {
                     self.note(*key, Use::Looked);
                 }
-                self.declare_other(*handle);
+                self.declare_handle(*handle);
             }
             Item::Alias {
                 of_type,
@@ -98,7 +144,7 @@ impl Finder {
                 let shape = Shape::written(of_type, self.known.unique);
                 self.declare(*name, Local::new(name.span, shape));
             }
-            Item::DynamicRegion { key, .. } => self.declare_other(*key),
+            Item::DynamicRegion { key, .. } => self.declare_key(*key),
         }
     }
 
@@ -147,7 +193,10 @@ impl Finder {
                 self.look_at_condition(*span, condition);
                 let leaves = self.look_at_statement(then);
                 match otherwise {
-                    Some(otherwise) => self.look_at_statement(otherwise) && leaves,
+                    Some(otherwise) => {
+                        self.look_at_chain(condition, otherwise);
+                        self.look_at_statement(otherwise) && leaves
+                    }
                     None => {
                         self.look_at_branch(then);
                         false
@@ -159,15 +208,16 @@ impl Finder {
                 condition,
                 body,
             } => {
-                self.look_at_head(*span, condition, body);
-                self.look_at_statement(body);
+                self.look_at_loop(*span, condition, body);
                 false
             }
             Stmt::Return { value, .. } => {
+                self.count_exit();
                 self.look_at_returned(value);
                 true
             }
             Stmt::Throw { value, .. } => {
+                self.count_exit();
                 if let Some(value) = value {
                     self.look_at(value, Use::Value);
                 }
@@ -194,7 +244,32 @@ impl Finder {
                 false
             }
             Stmt::Empty { .. } => false,
-            Stmt::Break { .. } | Stmt::Continue { .. } => true,
+            Stmt::Break { .. } => {
+                self.count_exit();
+                true
+            }
+            Stmt::Continue { .. } => true,
+        }
+    }
+
+    /// Counts one more statement that may leave a loop.
+    fn count_exit(&mut self) {
+        self.exits = self.exits.saturating_add(1);
+    }
+
+    /// Searches a loop for warnings.
+    #[cycle(statements)]
+    fn look_at_loop(&mut self, span: Span, condition: &Expr, body: &Stmt) {
+        let first = self.locals.watched();
+        let is_steady = self.watch(condition);
+        let end = self.locals.watched();
+        let (changes, exits) = (self.locals.changes_in(first, end), self.exits);
+        self.look_at_head(span, condition, body);
+        self.look_at_statement(body);
+        let is_changed = self.locals.changes_in(first, end) != changes;
+        let is_idle = is_steady && first < end && !is_changed && self.exits == exits;
+        if is_idle && !is_blank(body) {
+            self.locals.add_idle(Idle { span, first, end });
         }
     }
 
@@ -211,7 +286,7 @@ impl Finder {
     fn look_at_value(&mut self, value: &Expr) {
         let before = self.effects;
         self.look_at(value, Use::Dropped);
-        if self.effects == before && is_bare(value) {
+        if is_bare(value) && (self.effects == before || is_lost(value)) {
             self.warn(span_of(value), Warning::NoEffect);
         }
     }
@@ -228,6 +303,16 @@ impl Finder {
     fn look_at_branch(&mut self, then: &Stmt) {
         if let Stmt::Empty { span } = then {
             self.warn(*span, Warning::EmptyIf);
+        }
+        if let Some(span) = dangling(then) {
+            self.warn(span, Warning::DanglingElse);
+        }
+    }
+
+    /// Searches the conditions after an `else` for one that is the same as the condition before it.
+    fn look_at_chain(&mut self, condition: &Expr, otherwise: &Stmt) {
+        if let Some(span) = repeated(condition, otherwise) {
+            self.warn(span, Warning::SameCondition);
         }
     }
 

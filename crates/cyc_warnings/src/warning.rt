@@ -44,6 +44,30 @@ pub enum Warning {
     NeverGivenBack,
     /// The first character in the text that is invisible or changes the writing direction.
     HiddenCharacter,
+    /// A comparison of an expression with itself, as in `x == x`.
+    SelfCompared,
+    /// An assignment of a variable to itself, as in `x = x`.
+    SelfAssigned,
+    /// A negated operand of a comparison, as in `!x == 3`.
+    NotCompared,
+    /// A sum as a shift count, as in `a << 1 + b`.
+    ShiftOfSum,
+    /// Two comparisons that exclude each other, as in `x == 3 && x == 4`.
+    NeverBoth,
+    /// Two comparisons of which one always holds, as in `x != 3 || x != 4`.
+    AlwaysOne,
+    /// An `else` after two `if`s, as in `if (a) if (b) x = 1; else x = 2;`.
+    DanglingElse,
+    /// A statement that is indented as if it belonged to the `if` or loop before it.
+    MisleadingIndent,
+    /// A local with the name of another local that is in scope.
+    HidesLocal,
+    /// A condition that an earlier `if` of the same chain of `else if` has tested.
+    SameCondition,
+    /// A local that is the key of a dynamic region and is never freed or moved.
+    KeyNeverFreed,
+    /// A loop in which nothing changes the condition, as in `while (n > 0) putchar(n);`.
+    UnchangedCondition,
 }
 
 /// Returns the text of the warning, in which `%` stands for the token to which the warning refers.
@@ -75,6 +99,28 @@ pub fn text_of(warning: Warning) -> &'static str {
         Warning::NeverGivenBack => "`%` is never freed: free it by ufree, or pass it on",
         Warning::HiddenCharacter =>
             "this character is invisible or turns the direction of text: what you see may not be what is compiled",
+        Warning::SelfCompared =>
+            "both sides of this comparison are the same: compare with another value",
+        Warning::SelfAssigned =>
+            "this assigns a value to itself: assign another value, or delete it",
+        Warning::NotCompared => "`!` negates only the operand after it: write !(x == 3), or x != 3",
+        Warning::ShiftOfSum =>
+            "a sum binds tighter than a shift: write (a << 1) + b, or a << (1 + b)",
+        Warning::NeverBoth =>
+            "these two comparisons are never both true: write || if one of them is enough",
+        Warning::AlwaysOne =>
+            "one of these two comparisons is always true: write && if both must be true",
+        Warning::DanglingElse =>
+            "the `else` belongs to this `if`, not to the outer one: put { } around the branch of the outer `if`",
+        Warning::MisleadingIndent =>
+            "this does not belong to the `%` above it: put braces around the body, or indent this less",
+        Warning::HidesLocal => "`%` hides another local of this name: rename one of them",
+        Warning::SameCondition =>
+            "this condition is the same as one before it, so the branch is never taken: write another condition",
+        Warning::KeyNeverFreed =>
+            "`%` is never freed, nor is its region: free it by free_ukey, or pass it on",
+        Warning::UnchangedCondition =>
+            "nothing in this loop changes its condition: it ends at once or never",
     }
 }
 

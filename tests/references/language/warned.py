@@ -2,16 +2,25 @@
 that it stands for and each expression has its type."""
 import re
 
-from .texts import Node
+from .texts import LEVEL_OF, Node
 from .types import CHAR, is_fat, is_unique
 
 COMPARISONS = ("==", "!=", "<", "<=", ">", ">=")
 ORDERS = ("<", "<=", ">", ">=")
 EFFECTS = ("call", "assign", "new", "ufree", "free_ukey")
+# What declares a name in a block, and what a condition may consist of that only an assignment to its locals changes.
+DECLARED = ("local", "region", "open", "alias", "key")
+STEADY = ("variable", "number", "null", "unary", "binary", "numelts", "char")
+LEAVES = ("return", "break", "throw")
 WIDTH = 32
 # Characters beyond ASCII that a reader cannot see: control characters, direction marks and embeddings, zero-width characters, line
 # separators, the byte-order mark, tags.
 HIDDEN = re.compile("[\x80-\x9f\u061c\u200b-\u200f\u2028-\u202e\u2060-\u206f\ufeff\U000e0000-\U000e007f]")
+# The ints at both ends; what each comparison says of an int; and how it reads from its right operand.
+LEAST, MOST = -(2**31), 2**31 - 1
+HOLDS = {"==": lambda x, c: x == c, "!=": lambda x, c: x != c, "<": lambda x, c: x < c, "<=": lambda x, c: x <= c,
+         ">": lambda x, c: x > c, ">=": lambda x, c: x >= c}
+TURNED = {"==": "==", "!=": "!=", "<": ">", "<=": ">=", ">": "<", ">=": "<="}
 # The numbers of chars, fat pointers and other elements that occupy 1,000 machine words.
 CHARS_AT_MOST, FATS_AT_MOST, CELLS_AT_MOST = 4000, 333, 1000
 
@@ -62,6 +71,71 @@ def constant(node):
     return positive[node.sign]() if node.sign in positive and left >= 0 and right > 0 else None
 
 
+def chained(node):
+    """The part of a chain that stands before its last operator, where one of the same level goes before it without brackets."""
+    if node.kind == "binary":
+        before = node.left if node.left.kind == "binary" and LEVEL_OF[node.left.sign] == LEVEL_OF[node.sign] else None
+    else:
+        before = node.base if node.kind in ("element", "member") and node.base.kind in ("element", "member") else None
+    return None if before is None or is_bracketed(before) else before
+
+
+def are_same(one, other):
+    """Whether two expressions are written with the same words, and neither call, assign, make nor free anything."""
+    if one.kind != other.kind or one.kind in EFFECTS or is_bracketed(one) != is_bracketed(other) or words_of(one) != words_of(other):
+        return False
+    return all(are_same(*pair) for pair in zip(parts_of(one), parts_of(other)))
+
+
+def words_of(node):
+    """What an expression is written with beside its parts."""
+    words = [getattr(node, word, None) for word in ("name", "sign", "field")] + [node.value if node.kind == "number" else None]
+    return [getattr(word, "text", word) for word in words]
+
+
+def is_truth(node):
+    return node.kind == "binary" and node.sign in COMPARISONS + ("&&", "||") or node.kind == "unary" and node.sign == "!"
+
+
+def with_constant(node):
+    """What a comparison compares with a constant, the sign as it reads from there, and the constant; None for any other expression."""
+    if node.kind != "binary" or node.sign not in COMPARISONS or chained(node):
+        return None
+    left, right = constant(node.left), constant(node.right)
+    if (left is None) == (right is None):
+        return None
+    return (node.left, node.sign, right) if left is None else (node.right, TURNED[node.sign], left)
+
+
+def never(answer, *compared):
+    """Whether no int gives each of these comparisons with constants this answer: tried with each int that can matter."""
+    near = {x + step for _, _, x in compared for step in (-1, 0, 1)} | {LEAST, MOST}
+    return not any(all(HOLDS[sign](x, c) == answer for _, sign, c in compared) for x in near if LEAST <= x <= MOST)
+
+
+def place_of(item):
+    """Where an item of a block begins."""
+    if item.kind in ("region", "open", "alias", "key"):
+        return item.region.place
+    if item.kind == "block" and item.label:
+        return item.label.place
+    return item.written.place if item.kind == "local" else item.value.start if item.kind == "expression" else item.place
+
+
+def is_blank(node):
+    return node.kind == "nothing" or node.kind == "block" and all(item.kind == "nothing" for item in node.items)
+
+
+def ends_of(node, head=None):
+    """The statements without braces at the end of an `if` or a loop, each with the one that it hangs on."""
+    if node.kind not in ("if", "while"):
+        return []
+    if node.other and node.other.kind == "if":
+        return ends_of(node.other, head or node)
+    body = node.other or node.body
+    return ([] if body.kind == "block" else [(head or node, body)]) + ends_of(body)
+
+
 class Warned:
     """The places and the names of the warnings of one function, and the words that they name."""
 
@@ -72,11 +146,13 @@ class Warned:
         self.function = function
         for items in [function.body.items] + [node.items for node in self.nodes if hasattr(node, "items")]:
             self.order(items)
+            self.indents(items)
+        self.hides(function.body, {parameter.name for parameter in function.parameters})
         for node in self.nodes:
             getattr(self, "at_" + node.kind, lambda node: None)(node)
             if getattr(node, "wanted", None) == CHAR and constant(node) is not None and not 0 <= constant(node) <= 255:
                 self.warn(node.start, "CharConstant")
-        for node in function.parameters + [node for node in self.nodes if node.kind == "local"]:
+        for node in function.parameters + [node for node in self.nodes if node.kind in ("local", "key")]:
             self.local(node)
 
     def warn(self, place, name, word=None):
@@ -97,12 +173,32 @@ class Warned:
         items = [item for item in items if item.kind != "nothing"]
         for before, item in zip(items, items[1:]):
             if self.leaves(before):
-                place = {"local": lambda: item.written.place, "block": lambda: item.label.place if item.label else item.place,
-                         "expression": lambda: item.value.start}
-                named = item.kind in ("region", "open", "alias", "key")
-                at = item.region.place if named else place.get(item.kind, lambda: item.place)()
-                self.warn(at, "Unreachable", "}" if before.kind == "block" else before.kind)
+                self.warn(place_of(item), "Unreachable", "}" if before.kind == "block" else before.kind)
                 return
+
+    def indents(self, items):
+        """Each item that is as deep as the end of the statement before it, though that hangs on an `if` or a loop and the item does not."""
+        items = [item for item in items if item.kind != "nothing"]
+        for before, item in zip(items, items[1:]):
+            line, column = place_of(item)
+            for head, body in ends_of(before):
+                if head.place[1] < place_of(body)[1] == column and place_of(body)[0] < line:
+                    self.warn((line, column), "MisleadingIndent", head.kind)
+                    break
+
+    def hides(self, node, names):
+        """Each local of the name of another that is in scope; these are the names of those."""
+        if node.kind == "local" and node.name in names:
+            self.warn(node.place, "HidesLocal", node.name)
+        if not hasattr(node, "items"):
+            for part in parts_of(node):
+                self.hides(part, names)
+            return
+        if getattr(node, "value", None):
+            names = names | {node.value.name}
+        for item in node.items:
+            self.hides(item, names)
+            names = names | ({item.name} if item.kind in DECLARED else set())
 
     def has_effect(self, node):
         return any(part.kind in EFFECTS for part in all_of(node))
@@ -115,12 +211,43 @@ class Warned:
         if node.kind == "while" and node.body.kind == "nothing" and not self.has_effect(node.condition):
             self.warn(node.body.place, "EmptyWhile")
 
-    at_while = at_if
+        if node.kind == "if":
+            self.at_else(node)
+
+    def at_else(self, node):
+        inner = node.body
+        while inner.kind == "while":
+            inner = inner.body
+        if not node.other and inner.kind == "if" and inner.other:
+            self.warn(inner.place, "DanglingElse")
+        later = node.other
+        while later and later.kind == "if" and not are_same(node.condition, later.condition) and not self.has_effect(later.condition):
+            later = later.other
+        if later and later.kind == "if" and are_same(node.condition, later.condition):
+            self.warn(later.condition.start, "SameCondition")
+
+    def at_while(self, node):
+        self.at_if(node)
+        parts = list(all_of(node.condition))
+        mine = {id(part.variable) for part in parts if part.kind == "variable"}
+        is_steady = all(part.kind in STEADY and (part.kind != "variable" or part.variable.sort != "global") for part in parts)
+        if is_blank(node.body) or not mine or not is_steady or any(part.kind in LEAVES for part in all_of(node.body)):
+            return
+        inside = {id(part) for part in all_of(node.body)}
+        others = [other for other in self.nodes if other.kind == "variable" and id(other.variable) in mine]
+        uses = [self.use(other) for other in others if id(other) in inside or self.use(other) == "taken"]
+        if not {"taken", "assigned", "assigned and used"} & set(uses):
+            self.warn(node.place, "UnchangedCondition")
+
+    def at_assign(self, node):
+        if are_same(node.target, node.value):
+            self.warn(node.target.start, "SelfAssigned")
 
     def at_expression(self, node):
         value = node.value
         may_throw = value.kind in ("target", "member", "element") or value.kind == "binary" and value.sign in "/%"
-        if not may_throw and not self.has_effect(value) and not self.is_double(value):
+        is_lost = value.kind in ("unary", "address", "numelts", "char") or value.kind == "binary" and value.sign not in ("&&", "||")
+        if not may_throw and not self.is_double(value) and (is_lost or not self.has_effect(value)):
             self.warn(value.start, "NoEffect")
 
     # Expressions
@@ -165,9 +292,30 @@ class Warned:
                 self.warn(node.at, "AddedMinus")
         if sign in ("&", "|", "^"):
             self.bits(node)
+        if sign in COMPARISONS and not chained(node):
+            self.compared(node)
+        if sign in ("<<", ">>") and right.kind == "binary" and not is_bracketed(right) and count is None:
+            first = right
+            while chained(first):
+                first = chained(first)
+            if first.sign == "+" and constant(first.left) in range(WIDTH):
+                self.warn(node.at, "ShiftOfSum")
+        if sign in ("&&", "||"):
+            before = chained(node)
+            both = with_constant(before.right if before else left), with_constant(right)
+            if all(both) and are_same(both[0][0], both[1][0]) and never(sign == "&&", *both):
+                self.warn(node.at, "NeverBoth" if sign == "&&" else "AlwaysOne")
         for operand in (left, right) if sign in ("&&", "||") else ():
             if constant(operand) not in (None, 0, 1):
                 self.warn(operand.start, "ConstantOperand")
+
+    def compared(self, node):
+        left, right = node.left, node.right
+        if are_same(left, right) and constant(left) is None:
+            self.warn(node.at, "SelfCompared")
+        is_negated = left.kind == "unary" and left.sign == "!" and not is_bracketed(left)
+        if is_negated and not is_truth(right) and constant(right) not in (0, 1):
+            self.warn(left.place, "NotCompared")
 
     def bits(self, node):
         """A chain of one of the signs of bits, once, at its last operator."""
@@ -181,9 +329,7 @@ class Warned:
             node = node.left
         operands.insert(0, node)
         compared = [operand.kind == "binary" and operand.sign in COMPARISONS and not is_bracketed(operand) for operand in operands]
-        truths = [operand.kind == "binary" and operand.sign in COMPARISONS + ("&&", "||") or operand.kind == "unary" and operand.sign == "!"
-                  for operand in operands]
-        if any(compared) and not all(truths):
+        if any(compared) and not all(is_truth(operand) for operand in operands):
             last = max(number for number, is_compared in enumerate(compared) if is_compared)
             self.warn(signs[max(last, 1) - 1][1], "ComparedFirst")
 
@@ -202,12 +348,13 @@ class Warned:
         values = [node.value] if getattr(node, "value", None) else []
         values += [self.parents[id(other)].value for other in mine if self.use(other) in ("assigned", "assigned and used")]
         is_parameter = node in self.function.parameters
-        if not hasattr(node, "written"):
+        if not hasattr(node, "written") and node.kind != "key":
             return
-        has_object = is_unique(node.type) and (is_parameter or any(value.kind != "null" for value in values))
-        if has_object and not {"moved", "taken"} & set(uses):
-            self.warn(node.place, "NeverGivenBack", node.name)
-        elif not is_parameter and not set(uses) - {"assigned"}:
+        is_key = node.type[0] == "key"
+        is_filled = is_parameter or node.kind == "key" or any(value.kind != "null" for value in values)
+        if (is_key or is_unique(node.type)) and is_filled and not {"moved", "taken"} & set(uses):
+            self.warn(node.place, "KeyNeverFreed" if is_key else "NeverGivenBack", node.name)
+        elif node.kind == "local" and not is_parameter and not set(uses) - {"assigned"}:
             self.warn(node.place, "NeverRead", node.name)
         if not {"assigned", "assigned and used", "taken"} & set(uses):
             self.index(node, mine)
