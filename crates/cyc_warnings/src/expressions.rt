@@ -1,7 +1,7 @@
 //! This file finds warnings in expressions and their subexpressions.
-use crate::constants::{constant_of, is_more_than, is_past_width, is_shift_count};
+use crate::comparisons::is_loose_count;
+use crate::constants::{constant_of, is_more_than, is_past_width};
 use crate::finder::Finder;
-use crate::intervals::are_never_both;
 use crate::locals::{Local, Use};
 use crate::places::{is_next, leading_minus, minus_of, span_of};
 use crate::sameness::are_same;
@@ -14,7 +14,7 @@ use cyc_syntax::{
 use cyc_words::Span;
 
 /// The largest value of type char.
-const LARGEST_CHAR: u32 = 255;
+pub(crate) const LARGEST_CHAR: u32 = 255;
 
 // ---- kinds of expressions
 
@@ -106,11 +106,6 @@ fn is_comparison(operator: BinaryOperator) -> bool {
     matches!(operator, BinaryOperator::Equal | BinaryOperator::NotEqual) || is_order(operator)
 }
 
-/// Returns true if an expression is a constant other than 0 and 1, and so hardly a truth value.
-fn is_no_truth(expression: &Expr) -> bool {
-    is_more_than(expression, 1)
-}
-
 /// Returns true if an expression is a comparison that is not in parentheses.
 fn is_compared(expression: &Expr) -> bool {
     match expression {
@@ -123,7 +118,7 @@ fn is_compared(expression: &Expr) -> bool {
 }
 
 /// Returns true if an expression has the form of a truth value, 0 or 1.
-fn is_truth(expression: &Expr) -> bool {
+pub(crate) fn is_truth(expression: &Expr) -> bool {
     match expression {
         Expr::Bracketed { inner, .. } => is_truth(inner),
         Expr::Prefixed {
@@ -219,41 +214,6 @@ fn shape_of_result(first: Option<Shape>, rest: &[Operation]) -> Option<Shape> {
         },
         _ => Some(INT),
     }
-}
-
-/// Returns true if the count of a shift is a sum without parentheses that begins with a constant, as if that were the count.
-fn is_loose_count(count: &Expr) -> bool {
-    match count {
-        Expr::Binary { first, rest } => match rest.first() {
-            Some(operation) => {
-                operation.operator == BinaryOperator::Add
-                    && is_shift_count(first)
-                    && constant_of(count).is_none()
-            }
-            None => false,
-        },
-        _ => false,
-    }
-}
-
-/// Returns true if an expression is `!` and its operand, without parentheses around them.
-fn is_negation(expression: &Expr) -> bool {
-    matches!(
-        expression,
-        Expr::Prefixed {
-            operator: PrefixOperator::Not,
-            ..
-        }
-    )
-}
-
-/// Returns true if an expression may be compared with a truth value.
-fn is_like_truth(expression: &Expr) -> bool {
-    is_truth(expression)
-        || match constant_of(expression) {
-            Some(value) => value <= 1,
-            None => false,
-        }
 }
 
 fn is_sum(operator: BinaryOperator) -> bool {
@@ -523,43 +483,6 @@ impl Finder {
         }
     }
 
-    // ---- conditions of loops
-
-    /// Watches the locals on which an expression depends. Returns true if only assignments to these can change the expression's value.
-    pub(crate) fn watch(&mut self, expression: &Expr) -> bool {
-        match expression {
-            Expr::Number { .. } | Expr::Character { .. } | Expr::Null { .. } => true,
-            Expr::Variable { name } => {
-                let is_local = self.is_local(*name);
-                if is_local {
-                    self.locals.watch(self.known.local(name.name.number));
-                }
-                is_local
-            }
-            Expr::Bracketed { inner, .. } => self.watch(inner),
-            Expr::NumberOfElements { pointer, .. } => self.watch(pointer),
-            Expr::LowByteOf { value, .. } => self.watch(value),
-            Expr::Prefixed {
-                operator,
-                operand,
-                ..
-            } => {
-                !matches!(
-                    operator,
-                    PrefixOperator::Dereference | PrefixOperator::AddressOf
-                ) && self.watch(operand)
-            }
-            Expr::Binary { first, rest } => {
-                let mut is_steady = self.watch(first);
-                for operation in rest {
-                    is_steady = self.watch(&operation.operand) && is_steady;
-                }
-                is_steady
-            }
-            _ => false,
-        }
-    }
-
     // ---- operands and their postfixes
 
     fn look_at_sign(&mut self, span: Span, operator: PrefixOperator, operand: &Expr) {
@@ -615,24 +538,6 @@ impl Finder {
         self.look_at_pairs(first, rest);
     }
 
-    /// Searches the operands of `&&` or `||` for neighbours that are settled by each other.
-    fn look_at_pairs(&mut self, first: &Expr, rest: &[Operation]) {
-        let mut before = first;
-        for operation in rest {
-            let (span, operand) = (operation.span, &operation.operand);
-            match operation.operator {
-                BinaryOperator::AndThen if are_never_both(before, operand, true) => {
-                    self.warn(span, Warning::NeverBoth);
-                }
-                BinaryOperator::OrElse if are_never_both(before, operand, false) => {
-                    self.warn(span, Warning::AlwaysOne);
-                }
-                _ => {}
-            }
-            before = operand;
-        }
-    }
-
     fn look_at_bits(&mut self, first: &Expr, rest: &[Operation]) {
         if let Some(operation) = rest.first() {
             if is_bits(operation.operator) {
@@ -675,39 +580,7 @@ impl Finder {
         }
     }
 
-    /// Searches a comparison for warnings.
-    fn look_at_comparison(&mut self, span: Span, left: &Expr, right: &Expr) {
-        if self.is_settled(left, right) || self.is_settled(right, left) {
-            self.warn(span, Warning::CharCompared);
-        }
-        if are_same(left, right) && constant_of(left).is_none() {
-            self.warn(span, Warning::SelfCompared);
-        }
-        if is_negation(left) && !is_like_truth(right) {
-            self.warn(span_of(left), Warning::NotCompared);
-        }
-    }
-
-    /// Searches the right operand of `||` or `&&` for warnings. If the operator is the first of several consecutive `||` or `&&`,
-    /// the left operand is searched for warnings as well.
-    fn look_at_truths(&mut self, left: Option<&Expr>, operand: &Expr) {
-        if let Some(left) = left {
-            if is_no_truth(left) {
-                self.warn(span_of(left), Warning::ConstantOperand);
-            }
-        }
-        if is_no_truth(operand) {
-            self.warn(span_of(operand), Warning::ConstantOperand);
-        }
-    }
-
-    /// Returns true if one operand of a comparison is a char and the other is a constant outside the range of chars, so that the result is
-    /// known.
-    fn is_settled(&self, one: &Expr, other: &Expr) -> bool {
-        is_more_than(other, LARGEST_CHAR) && self.is_char(one)
-    }
-
-    fn is_char(&self, expression: &Expr) -> bool {
+    pub(crate) fn is_char(&self, expression: &Expr) -> bool {
         match self.shape_of(expression) {
             Some(shape) => shape.is_char(),
             None => false,

@@ -5,6 +5,7 @@
 pub use finding::find_warnings;
 pub use warning::{Found, MOST_WARNINGS, Warning, text_of};
 
+mod comparisons;
 mod constants;
 mod expressions;
 mod finder;
@@ -14,6 +15,7 @@ mod intervals;
 mod known;
 mod layout;
 mod locals;
+mod loops;
 mod places;
 mod sameness;
 mod shapes;

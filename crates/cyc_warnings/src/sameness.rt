@@ -10,9 +10,8 @@ fn literal(expression: &Expr) -> Option<u32> {
     }
 }
 
-/// Returns true if two expressions are written with the same tokens, and neither has an effect.
-#[cycle(sameness)]
-pub(crate) fn are_same(one: &Expr, other: &Expr) -> bool {
+/// Returns true if two expressions without subexpressions are the same.
+fn are_same_leaves(one: &Expr, other: &Expr) -> bool {
     match one {
         Expr::Number { value, .. } => literal(other) == Some(*value),
         Expr::Character { value, .. } => literal(other) == Some(u32::from(*value)),
@@ -21,6 +20,14 @@ pub(crate) fn are_same(one: &Expr, other: &Expr) -> bool {
             Expr::Variable { name: second } => name.name.number == second.name.number,
             _ => false,
         },
+        _ => false,
+    }
+}
+
+/// Returns true if two expressions are written with the same tokens, and neither has an effect.
+#[cycle(sameness)]
+pub(crate) fn are_same(one: &Expr, other: &Expr) -> bool {
+    match one {
         Expr::Bracketed { inner, .. } => match other {
             Expr::Bracketed { inner: second, .. } => are_same(inner, second),
             _ => false,
@@ -62,7 +69,7 @@ pub(crate) fn are_same(one: &Expr, other: &Expr) -> bool {
             } => are_same(first, second) && are_same_operations(rest, others),
             _ => false,
         },
-        _ => false,
+        _ => are_same_leaves(one, other),
     }
 }
 

@@ -3,40 +3,21 @@ use crate::constants::constant_of;
 use crate::expressions::{is_bare, is_lost, is_null};
 use crate::finder::Finder;
 use crate::layout::{dangling, misleading, repeated};
-use crate::locals::{Idle, Local, Use};
+use crate::locals::{Local, Use};
 use crate::places::{span_of, span_of_item, span_of_leaving};
 use crate::shapes::{Home, INT, Shape};
 use crate::warning::Warning;
-use cyc_syntax::{Expr, Initial, Item, Stmt};
+use cyc_syntax::{Clause, Expr, Initial, Item, Stmt};
 use cyc_words::Span;
 
 /// Returns true if a declaration or statement of a block is only a semicolon.
-fn is_empty(item: &Item) -> bool {
+pub(crate) fn is_empty(item: &Item) -> bool {
     matches!(
         item,
         Item::Statement {
             statement: Stmt::Empty { .. },
         }
     )
-}
-
-/// Returns true if the declarations and statements of a block are only semicolons.
-fn are_empty(items: &[Item]) -> bool {
-    for item in items {
-        if !is_empty(item) {
-            return false;
-        }
-    }
-    true
-}
-
-/// Returns true if a statement is only a semicolon, or a block of semicolons.
-fn is_blank(statement: &Stmt) -> bool {
-    match statement {
-        Stmt::Empty { .. } => true,
-        Stmt::Block { block } | Stmt::Labelled { block, .. } => are_empty(&block.items),
-        _ => false,
-    }
 }
 
 /// Returns the number of elements of the array that an expression creates.
@@ -170,7 +151,7 @@ impl Finder {
 
     /// Searches a statement for warnings. Returns true if the statement always leaves its block.
     #[cycle(statements)]
-    fn look_at_statement(&mut self, statement: &Stmt) -> bool {
+    pub(crate) fn look_at_statement(&mut self, statement: &Stmt) -> bool {
         match statement {
             Stmt::Block { block } | Stmt::Labelled { block, .. } => self.look_at_block(
                 &block.items,
@@ -191,17 +172,7 @@ impl Finder {
                 otherwise,
             } => {
                 self.look_at_condition(*span, condition);
-                let leaves = self.look_at_statement(then);
-                match otherwise {
-                    Some(otherwise) => {
-                        self.look_at_chain(condition, otherwise);
-                        self.look_at_statement(otherwise) && leaves
-                    }
-                    None => {
-                        self.look_at_branch(then);
-                        false
-                    }
-                }
+                self.look_at_branches(condition, then, otherwise)
             }
             Stmt::While {
                 span,
@@ -230,14 +201,7 @@ impl Finder {
                 ..
             } => {
                 self.look_at_statement(body);
-                for clause in clauses {
-                    let depth = self.known.depth();
-                    if let Some(variable) = clause.variable {
-                        self.declare(variable, Local::new(variable.span, INT));
-                    }
-                    self.look_at_block(&clause.items);
-                    self.known.unbind(depth);
-                }
+                self.look_at_clauses(clauses);
                 if let Some(items) = default {
                     self.look_at_block(items);
                 }
@@ -252,25 +216,42 @@ impl Finder {
         }
     }
 
+    /// Searches the branches of an `if` with this condition for warnings. Returns true if both always leave their block.
+    #[cycle(statements)]
+    fn look_at_branches(
+        &mut self,
+        condition: &Expr,
+        then: &Stmt,
+        otherwise: &Option<Box<Stmt>>,
+    ) -> bool {
+        let leaves = self.look_at_statement(then);
+        match otherwise {
+            Some(otherwise) => {
+                self.look_at_chain(condition, otherwise);
+                self.look_at_statement(otherwise) && leaves
+            }
+            None => {
+                self.look_at_branch(then);
+                false
+            }
+        }
+    }
+
+    #[cycle(statements)]
+    fn look_at_clauses(&mut self, clauses: &[Clause]) {
+        for clause in clauses {
+            let depth = self.known.depth();
+            if let Some(variable) = clause.variable {
+                self.declare(variable, Local::new(variable.span, INT));
+            }
+            self.look_at_block(&clause.items);
+            self.known.unbind(depth);
+        }
+    }
+
     /// Counts one more statement that may leave a loop.
     fn count_exit(&mut self) {
         self.exits = self.exits.saturating_add(1);
-    }
-
-    /// Searches a loop for warnings.
-    #[cycle(statements)]
-    fn look_at_loop(&mut self, span: Span, condition: &Expr, body: &Stmt) {
-        let first = self.locals.watched();
-        let is_steady = self.watch(condition);
-        let end = self.locals.watched();
-        let (changes, exits) = (self.locals.changes_in(first, end), self.exits);
-        self.look_at_head(span, condition, body);
-        self.look_at_statement(body);
-        let is_changed = self.locals.changes_in(first, end) != changes;
-        let is_idle = is_steady && first < end && !is_changed && self.exits == exits;
-        if is_idle && !is_blank(body) {
-            self.locals.add_idle(Idle { span, first, end });
-        }
     }
 
     fn look_at_returned(&mut self, value: &Option<Expr>) {
@@ -317,7 +298,7 @@ impl Finder {
     }
 
     /// Searches the condition of the loop at this source position for warnings, and tests if the loop's body is empty.
-    fn look_at_head(&mut self, span: Span, condition: &Expr, body: &Stmt) {
+    pub(crate) fn look_at_head(&mut self, span: Span, condition: &Expr, body: &Stmt) {
         let before = self.effects;
         self.look_at_condition(span, condition);
         if let Stmt::Empty { span } = body {

@@ -1,0 +1,78 @@
+//! This file finds loops whose conditions nothing changes.
+use crate::finder::Finder;
+use crate::locals::Idle;
+use crate::statements::is_empty;
+use cyc_syntax::{Expr, Item, PrefixOperator, Stmt};
+use cyc_words::Span;
+
+/// Returns true if the declarations and statements of a block are only semicolons.
+fn are_empty(items: &[Item]) -> bool {
+    for item in items {
+        if !is_empty(item) {
+            return false;
+        }
+    }
+    true
+}
+
+/// Returns true if a statement is only a semicolon, or a block of semicolons.
+fn is_blank(statement: &Stmt) -> bool {
+    match statement {
+        Stmt::Empty { .. } => true,
+        Stmt::Block { block } | Stmt::Labelled { block, .. } => are_empty(&block.items),
+        _ => false,
+    }
+}
+
+impl Finder {
+    /// Searches a loop for warnings.
+    #[cycle(statements)]
+    pub(crate) fn look_at_loop(&mut self, span: Span, condition: &Expr, body: &Stmt) {
+        let first = self.locals.watched();
+        let is_steady = self.watch(condition);
+        let end = self.locals.watched();
+        let (changes, exits) = (self.locals.changes_in(first, end), self.exits);
+        self.look_at_head(span, condition, body);
+        self.look_at_statement(body);
+        let is_changed = self.locals.changes_in(first, end) != changes;
+        let is_idle = is_steady && first < end && !is_changed && self.exits == exits;
+        if is_idle && !is_blank(body) {
+            self.locals.add_idle(Idle { span, first, end });
+        }
+    }
+
+    /// Watches the locals on which an expression depends. Returns true if only assignments to these can change the expression's value.
+    fn watch(&mut self, expression: &Expr) -> bool {
+        match expression {
+            Expr::Number { .. } | Expr::Character { .. } | Expr::Null { .. } => true,
+            Expr::Variable { name } => {
+                let is_local = self.is_local(*name);
+                if is_local {
+                    self.locals.watch(self.known.local(name.name.number));
+                }
+                is_local
+            }
+            Expr::Bracketed { inner, .. } => self.watch(inner),
+            Expr::NumberOfElements { pointer, .. } => self.watch(pointer),
+            Expr::LowByteOf { value, .. } => self.watch(value),
+            Expr::Prefixed {
+                operator,
+                operand,
+                ..
+            } => {
+                !matches!(
+                    operator,
+                    PrefixOperator::Dereference | PrefixOperator::AddressOf
+                ) && self.watch(operand)
+            }
+            Expr::Binary { first, rest } => {
+                let mut is_steady = self.watch(first);
+                for operation in rest {
+                    is_steady = self.watch(&operation.operand) && is_steady;
+                }
+                is_steady
+            }
+            _ => false,
+        }
+    }
+}
