@@ -85,7 +85,7 @@ fn is_quotient(operations: &[Operation]) -> bool {
 }
 
 /// Returns true if the operand of a minus sign begins with another minus sign directly after the first.
-fn is_double(span: Span, operand: &Expr) -> bool {
+pub(crate) fn is_double(span: Span, operand: &Expr) -> bool {
     match minus_of(operand) {
         Some(second) => is_next(span, second),
         None => false,

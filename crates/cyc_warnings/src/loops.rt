@@ -1,4 +1,5 @@
 //! This file finds loops whose conditions nothing changes.
+use crate::expressions::is_double;
 use crate::finder::Finder;
 use crate::locals::Idle;
 use crate::statements::is_empty;
@@ -24,18 +25,28 @@ fn is_blank(statement: &Stmt) -> bool {
     }
 }
 
+/// Returns true if a prefix operator only computes a value. Two minus signs that stand together are warned of as such, and so no loop with
+/// them in its condition is.
+fn is_steady(span: Span, operator: PrefixOperator, operand: &Expr) -> bool {
+    match operator {
+        PrefixOperator::Dereference | PrefixOperator::AddressOf => false,
+        PrefixOperator::Negate => !is_double(span, operand),
+        PrefixOperator::Not | PrefixOperator::Complement => true,
+    }
+}
+
 impl Finder {
     /// Searches a loop for warnings.
     #[cycle(statements)]
     pub(crate) fn look_at_loop(&mut self, span: Span, condition: &Expr, body: &Stmt) {
         let first = self.locals.watched();
-        let is_steady = self.watch(condition);
+        let is_watched = self.watch(condition);
         let end = self.locals.watched();
         let (changes, exits) = (self.locals.changes_in(first, end), self.exits);
         self.look_at_head(span, condition, body);
         self.look_at_statement(body);
         let is_changed = self.locals.changes_in(first, end) != changes;
-        let is_idle = is_steady && first < end && !is_changed && self.exits == exits;
+        let is_idle = is_watched && first < end && !is_changed && self.exits == exits;
         if is_idle && !is_blank(body) {
             self.locals.add_idle(Idle { span, first, end });
         }
@@ -56,21 +67,16 @@ impl Finder {
             Expr::NumberOfElements { pointer, .. } => self.watch(pointer),
             Expr::LowByteOf { value, .. } => self.watch(value),
             Expr::Prefixed {
+                span,
                 operator,
                 operand,
-                ..
-            } => {
-                !matches!(
-                    operator,
-                    PrefixOperator::Dereference | PrefixOperator::AddressOf
-                ) && self.watch(operand)
-            }
+            } => is_steady(*span, *operator, operand) && self.watch(operand),
             Expr::Binary { first, rest } => {
-                let mut is_steady = self.watch(first);
+                let mut is_watched = self.watch(first);
                 for operation in rest {
-                    is_steady = self.watch(&operation.operand) && is_steady;
+                    is_watched = self.watch(&operation.operand) && is_watched;
                 }
-                is_steady
+                is_watched
             }
             _ => false,
         }

@@ -230,7 +230,8 @@ class Warned:
         self.at_if(node)
         parts = list(all_of(node.condition))
         mine = {id(part.variable) for part in parts if part.kind == "variable"}
-        is_steady = all(part.kind in STEADY and (part.kind != "variable" or part.variable.sort != "global") for part in parts)
+        is_steady = all(part.kind in STEADY and not self.is_double(part) for part in parts)
+        is_steady = is_steady and all(part.variable.sort != "global" for part in parts if part.kind == "variable")
         if is_blank(node.body) or not mine or not is_steady or any(part.kind in LEAVES for part in all_of(node.body)):
             return
         inside = {id(part) for part in all_of(node.body)}
