@@ -17,40 +17,45 @@ pub(crate) fn dangling(then: &Stmt) -> Option<Span> {
     }
 }
 
-/// Returns the source position of the `if` or `while` to which a later statement seems to belong, given the source positions of the
-/// statement before it, which the later one seems to continue, and of the later one.
-#[cycle(layout)]
+/// Returns true if a later statement begins in the same column as a body without braces, deeper than the `if` or `while` of that body, and
+/// so seems to belong to it.
+fn is_below(head: Span, body: &Stmt, next: Span) -> bool {
+    if let Stmt::Block { .. } | Stmt::Labelled { .. } = body {
+        return false;
+    }
+    let start = span_of_statement(body);
+    head.column < start.column && start.column == next.column && start.line < next.line
+}
+
+/// Returns the source position of the `if` or `while` to which a later statement seems to belong, given the statement before it with its
+/// source position, and the source position of the later one.
 pub(crate) fn misleading(head: Span, statement: &Stmt, next: Span) -> Option<Span> {
     match statement {
-        Stmt::If {
-            then,
+        Stmt::While { body, .. }
+        | Stmt::If {
+            then: body,
             otherwise: None,
             ..
-        } => misleading_body(head, then, next),
+        } => {
+            if is_below(head, body, next) {
+                return Some(head);
+            }
+            misleading(span_of_statement(body), body, next)
+        }
         Stmt::If {
             otherwise: Some(otherwise),
             ..
-        } => match &**otherwise {
-            Stmt::If { .. } => misleading(head, otherwise, next),
-            _ => misleading_body(head, otherwise, next),
-        },
-        Stmt::While { body, .. } => misleading_body(head, body, next),
+        } => {
+            if let Stmt::If { .. } = &**otherwise {
+                return misleading(head, otherwise, next);
+            }
+            if is_below(head, otherwise, next) {
+                return Some(head);
+            }
+            misleading(span_of_statement(otherwise), otherwise, next)
+        }
         _ => None,
     }
-}
-
-/// Returns the same for the body of an `if` or `while`: a statement that begins in the same column as a body without braces seems to
-/// belong to it.
-#[cycle(layout)]
-fn misleading_body(head: Span, body: &Stmt, next: Span) -> Option<Span> {
-    if let Stmt::Block { .. } | Stmt::Labelled { .. } = body {
-        return None;
-    }
-    let start = span_of_statement(body);
-    if head.column < start.column && start.column == next.column && start.line < next.line {
-        return Some(head);
-    }
-    misleading(start, body, next)
 }
 
 /// Returns the source position of a condition that is the same as this one, and is tested only after this one was false, with no effect
