@@ -1,0 +1,13 @@
+pub mod Kept
+pub mod Nodes
+pub mod PrintedArguments
+pub mod LiveCounts
+pub mod Changed
+pub mod Classes
+pub mod Named
+pub mod LimitLaws
+pub mod Seen
+pub mod Pages
+pub mod Starts
+pub mod Closes
+pub mod FieldKinds

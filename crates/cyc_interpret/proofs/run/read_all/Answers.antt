@@ -1,0 +1,10 @@
+use Rattle.std.specs.Io.KnownBytes.{Keeps, IsAtEnd}
+use Rattle.cyc_words.specs.Device.{Gives}
+use Rattle.cyc_interpret.proofs.Starts.{end_seen}
+use Rattle.cyc_interpret.proofs.run.read_all.Goals as goal
+
+pub returns-in-Ok-None-clause-ends : goal.returns-in-Ok-None-clause-ends
+returns-in-Ok-None-clause-ends g c =
+    let remaining = g.R.ByteIn.remaining in
+    let told : IsAtEnd (remaining c.loop.reader) × Keeps (remaining c.loop.reader) (remaining c.next.new.self) = rw c.in-Ok-None.field-0-is at c.in-Ok-None.ensures.bytes in
+    end_seen (remaining c.args.reader.now) (remaining c.loop.reader) (remaining c.next.new.self) c.loop.input.items c.loop.invariant told.0 told.1
