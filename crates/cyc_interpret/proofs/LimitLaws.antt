@@ -41,9 +41,9 @@ SeenAlike s t = (output_of s ≡ output_of t) × (input_of s ≡ input_of t)
 module _ (program : Program) (pages calls : ℕ) (stack : List Entry) (e : Environment) (w : World) where
   quiet : (focus : Focus) → printed_by focus ≡ [] → read_by focus ≡ 0 → SeenAlike (step program (Running focus stack e w)) (Running focus stack e w)
   quiet focus none unread = (
-      step_prints program focus stack e w ∙ (ap (λ l. w.output ++ l) none ∙ append-nil w.output),
-      step_reads program focus stack e w ∙ ap (λ n. drop n w.input) unread,
-    )
+    step_prints program focus stack e w ∙ (ap (λ l. w.output ++ l) none ∙ append-nil w.output),
+    step_reads program focus stack e w ∙ ap (λ n. drop n w.input) unread,
+  )
 
   past : (focus : Focus) → is_within pages calls (Running focus stack e w) ≡ true → is_within pages calls (step program (Running focus stack e w)) ≡ false → SeenAlike (step program (Running focus stack e w)) (Running focus stack e w)
   past (Calling callees.Putchar arguments) within full = absurd (let e1 = prints_within pages calls (Calling callees.Putchar arguments) stack e w within (values_of arguments) in let no : true ≡ false = sym e1 ∙ full in cc)

@@ -42,14 +42,14 @@ module _ (r : RegionCode) where
       → pages_in (record (view_region r) { blocks = r.blocks.items ++ size ∷ [] }) ≡ pages_in (view_region r) + 1
   grows size kept past =
       let more : pages_in (record (view_region r) { blocks = r.blocks.items ++ size ∷ [] }) ≡ suc r.pages =
-          ap (λ (b : Bool). if b then region_pages (r.blocks.items ++ size ∷ []) else 0) kept ∙ (pages_grow r size ∙ ap (λ (b : Bool). if b then r.pages else suc r.pages) past) in
+      ap (λ (b : Bool). if b then region_pages (r.blocks.items ++ size ∷ []) else 0) kept ∙ (pages_grow r size ∙ ap (λ (b : Bool). if b then r.pages else suc r.pages) past) in
       omega (arith, more, held_is kept)
 
   pub fits_in : (size : ℕ) → has_pages (view_sort r.sort) r.is_open ≡ true → nat_le (r.filled + size) 1024 ≡ true
       → pages_in (record (view_region r) { blocks = r.blocks.items ++ size ∷ [] }) ≡ pages_in (view_region r) + 0
   fits_in size kept fits =
       let more : pages_in (record (view_region r) { blocks = r.blocks.items ++ size ∷ [] }) ≡ r.pages =
-          ap (λ (b : Bool). if b then region_pages (r.blocks.items ++ size ∷ []) else 0) kept ∙ (pages_grow r size ∙ ap (λ (b : Bool). if b then r.pages else suc r.pages) fits) in
+      ap (λ (b : Bool). if b then region_pages (r.blocks.items ++ size ∷ []) else 0) kept ∙ (pages_grow r size ∙ ap (λ (b : Bool). if b then r.pages else suc r.pages) fits) in
       omega (arith, more, held_is kept)
 
   pub keeps_none : (size : ℕ) → has_pages (view_sort r.sort) r.is_open ≡ false → pages_in (record (view_region r) { blocks = r.blocks.items ++ size ∷ [] }) ≡ pages_in (view_region r) + 0
@@ -112,7 +112,7 @@ pub opened_pages : (rs new : List RegionCode) (r : RegionCode) (classes : List �
     → demand_of (counted (map view_region new)) classes ≡ sum
 opened_pages rs new r classes pages held sum one before is more =
     let all : demand_of (counted (map view_region new)) classes ≡ demand_of (counted (map view_region rs ++ view_region r ∷ [])) classes =
-        ap (λ (l : List RegionCode). demand_of (counted (map view_region l)) classes) one ∙ ap (λ (l : List Region). demand_of (counted l) classes) (map-append view_region rs (r ∷ [])) in
+    ap (λ (l : List RegionCode). demand_of (counted (map view_region l)) classes) one ∙ ap (λ (l : List Region). demand_of (counted l) classes) (map-append view_region rs (r ∷ [])) in
     omega (arith, all, counted-append (map view_region rs) (view_region r) classes, before, is, more)
 
 -- one region changed

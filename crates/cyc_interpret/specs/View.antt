@@ -60,7 +60,7 @@ view_entry (entry.ApplyPointer peek operator left) = Needs (ApplyPointer peek op
 view_entry entry.Decide = Needs Decide
 view_entry (entry.Store object) = Needs (Store (Thin object 0))
 view_entry (entry.StoreCell peek place) = Needs (StoreCell peek (view_value place))
-view_entry (entry.Pass callee before arguments from) = Needs (Pass callee (reverse (operands_of before.items)) (arguments_of (drop from arguments.now.items)))
+view_entry (entry.Pass callee at before arguments from) = Needs (Pass callee (reverse (operands_of before.items)) (arguments_of (drop from arguments.now.items)))
 view_entry (entry.Follow pointer target) = Needs (Follow pointer target)
 view_entry (entry.FollowMember pointer fields field) = Needs (FollowMember pointer (map kind_of (map view_ty fields.now.items)) field)
 view_entry (entry.Index peek target index) = Needs (Index peek target (view_expression index.now))
@@ -94,7 +94,7 @@ view_entry (entry.CloseRegion region home) = CloseRegion region home
 view_entry (entry.CloseLexical region) = CloseLexical region
 view_entry (entry.EndLoan lent) = EndLoan lent
 view_entry (entry.Handler clauses from default) = Handler (clauses_of (drop from clauses.now.items) (default_of default.now))
-view_entry (entry.Caller environment) = Caller (view_environment environment)
+view_entry (entry.Caller environment number at) = Caller (view_environment environment)
 view_entry entry.Main = Main
 
 -- The newest entry is the last of the list.
@@ -117,7 +117,7 @@ view_focus (focus.Given operand) = Given (view_operand operand)
 view_focus (focus.GivenPlace place) = GivenPlace (view_value place)
 view_focus (focus.Executing statement) = Executing (view_statement statement.now)
 view_focus focus.Proceeding = Proceeding
-view_focus (focus.Calling callee arguments) = Calling callee (reverse (operands_of arguments.items))
+view_focus (focus.Calling callee at arguments) = Calling callee (reverse (operands_of arguments.items))
 view_focus (focus.Entering function arguments) = Entering (view_function function.now) (operands_of arguments.items)
 view_focus (focus.Binding number function arguments) =
     Binding number (map view_ty (drop number function.now.parameters.items)) (operands_of (drop number arguments.items)) (items_of function.now.body.items)

@@ -114,7 +114,12 @@ impl<'a> Machine<'a> {
     }
 
     /// The only cell of a new object has this kind.
-    pub(crate) fn make_plain(&mut self, owner: Owner, kind: Kind, value: Operand) -> Result<(), AllocError>
+    pub(crate) fn make_plain(
+        &mut self,
+        owner: Owner,
+        kind: Kind,
+        value: Operand,
+    ) -> Result<(), AllocError>
         ensures { OnOk result (state_of self.new ≡ makes_plain (view_owner owner) kind (view_operand value) (stack_of self.old) (environment_of self.old) (world_of self.old)) }
     {
         if is_kind(value.kind, kind) {
@@ -128,7 +133,13 @@ impl<'a> Machine<'a> {
     }
 
     /// Fields are evaluated and converted one by one, from this one on.
-    pub(crate) fn make_fields(&mut self, owner: Owner, before: Vec<Operand>, fields: &'a Vec<Converted>, from: usize) -> Result<(), AllocError>
+    pub(crate) fn make_fields(
+        &mut self,
+        owner: Owner,
+        before: Vec<Operand>,
+        fields: &'a Vec<Converted>,
+        from: usize,
+    ) -> Result<(), AllocError>
         ensures { OnOk result (state_of self.new ≡ makes_fields (view_owner owner) (reverse (operands_of before.items)) (arguments_of (drop from fields.now.items)) (stack_of self.old) (environment_of self.old) (world_of self.old)) }
     {
         match fields.get(from) {
@@ -156,7 +167,14 @@ impl<'a> Machine<'a> {
     // ---- arrays
 
     /// The length of an array is checked.
-    pub(crate) fn make_array(&mut self, owner: Owner, level: usize, kind: Kind, element: &'a Expr, length: Value)
+    pub(crate) fn make_array(
+        &mut self,
+        owner: Owner,
+        level: usize,
+        kind: Kind,
+        element: &'a Expr,
+        length: Value,
+    )
         ensures { state_of self.new ≡ makes_array (view_owner owner) level kind (view_expression element.now) (view_value length) (stack_of self.old) (environment_of self.old) (world_of self.old) }
     {
         match length {
@@ -178,7 +196,14 @@ impl<'a> Machine<'a> {
     }
 
     /// The block of an array is made.
-    pub(crate) fn begin_array(&mut self, owner: Owner, count: u32, level: usize, kind: Kind, element: &'a Expr) -> Result<(), AllocError>
+    pub(crate) fn begin_array(
+        &mut self,
+        owner: Owner,
+        count: u32,
+        level: usize,
+        kind: Kind,
+        element: &'a Expr,
+    ) -> Result<(), AllocError>
         ensures { OnOk result (state_of self.new ≡ step_beginning (view_owner owner) count level kind (view_expression element.now) (stack_of self.old) (environment_of self.old) (world_of self.old)) }
     {
         let object = self.world.objects.len();
@@ -201,7 +226,12 @@ impl<'a> Machine<'a> {
     }
 
     /// The next element of an array is evaluated, or the pointer to all is passed on.
-    pub(crate) fn repeat_element(&mut self, progress: Progress, kind: Kind, element: &'a Expr) -> Result<(), AllocError>
+    pub(crate) fn repeat_element(
+        &mut self,
+        progress: Progress,
+        kind: Kind,
+        element: &'a Expr,
+    ) -> Result<(), AllocError>
         ensures { OnOk result (state_of self.new ≡ step_repeating progress.object progress.count progress.index progress.level kind (view_expression element.now) (stack_of self.old) (environment_of self.old) (world_of self.old)) }
     {
         if progress.index == progress.count {
@@ -286,7 +316,11 @@ impl<'a> Machine<'a> {
     }
 
     /// `new` makes an object in the heap, `rnew` in the region of a handle, which is evaluated first, or a unique one.
-    pub(crate) fn allocate(&mut self, placement: &'a Placement, initial: &'a Initial) -> Result<(), AllocError>
+    pub(crate) fn allocate(
+        &mut self,
+        placement: &'a Placement,
+        initial: &'a Initial,
+    ) -> Result<(), AllocError>
         ensures { OnOk result (state_of self.new ≡ allocates (view_placement placement.now) (view_initial initial.now) (stack_of self.old) (environment_of self.old) (world_of self.old)) }
     {
         match placement {

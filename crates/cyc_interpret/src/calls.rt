@@ -13,6 +13,7 @@ use crate::machine::Machine;
 use crate::value::{Operand, Value};
 use cyc_types::TypedTree;
 use cyc_types::typed::{Callee, Converted, Function, Kind};
+use cyc_words::Span;
 use std::alloc::{AllocError, Global};
 use std::mem;
 
@@ -38,17 +39,26 @@ impl Environment {
 
 impl<'a> Machine<'a> {
     /// Arguments are evaluated and converted one by one, from this one on.
-    pub(crate) fn pass(&mut self, callee: Callee, before: Vec<Operand>, arguments: &'a Vec<Converted>, from: usize) -> Result<(), AllocError>
+    pub(crate) fn pass(
+        &mut self,
+        callee: Callee,
+        at: Span,
+        before: Vec<Operand>,
+        arguments: &'a Vec<Converted>,
+        from: usize,
+    ) -> Result<(), AllocError>
         ensures { OnOk result (state_of self.new ≡ passes callee (reverse (operands_of before.items)) (arguments_of (drop from arguments.now.items)) (stack_of self.old) (environment_of self.old) (world_of self.old)) }
     {
         match arguments.get(from) {
             None => self.go(Focus::Calling {
                 callee,
+                at,
                 arguments: before,
             }),
             Some(argument) => {
                 self.stack.push(Entry::Pass {
                     callee,
+                    at,
                     before,
                     arguments,
                     from: from + 1,
@@ -63,7 +73,9 @@ impl<'a> Machine<'a> {
     fn print(&mut self, arguments: &Vec<Operand>) -> Result<(), AllocError>
         ensures { OnOk result (state_of self.new ≡ prints (values_of (operands_of arguments.now.items)) (stack_of self.old) (environment_of self.old) (world_of self.old)) }
     {
-        if arguments.len() == 1 && let Value::Int { word } = arguments[0].value {
+        if arguments.len() == 1
+            && let Value::Int { word } = arguments[0].value
+        {
             self.world.print((word % 256) as u8)?;
             self.give(Kind::Int, Value::Int { word: word % 256 });
         } else {
@@ -88,23 +100,39 @@ impl<'a> Machine<'a> {
     }
 
     /// The call is made.
-    pub(crate) fn call(&mut self, program: &'a TypedTree, callee: Callee, arguments: Vec<Operand>) -> Result<(), AllocError>
+    pub(crate) fn call(
+        &mut self,
+        program: &'a TypedTree,
+        callee: Callee,
+        at: Span,
+        arguments: Vec<Operand>,
+    ) -> Result<(), AllocError>
         ensures { OnOk result (state_of self.new ≡ step_calling (view_program program.now) callee (reverse (operands_of arguments.items)) (stack_of self.old) (environment_of self.old) (world_of self.old)) }
     {
         match callee {
             Callee::Putchar => self.print(&arguments)?,
             Callee::Getchar => self.take(&arguments),
-            Callee::Function { number } => self.begin(program, number, arguments)?,
+            Callee::Function { number } => self.begin(program, number, at, arguments)?,
         }
         Ok(())
     }
 
     /// A function of the program is called.
-    fn begin(&mut self, program: &'a TypedTree, number: usize, arguments: Vec<Operand>) -> Result<(), AllocError>
+    fn begin(
+        &mut self,
+        program: &'a TypedTree,
+        number: usize,
+        at: Span,
+        arguments: Vec<Operand>,
+    ) -> Result<(), AllocError>
         ensures { OnOk result (state_of self.new ≡ step_calling (view_program program.now) (callees.Function number) (reverse (operands_of arguments.items)) (stack_of self.old) (environment_of self.old) (world_of self.old)) }
     {
         let environment = mem::replace(&mut self.environment, Environment::new(self.alloc));
-        self.stack.push(Entry::Caller { environment })?;
+        self.stack.push(Entry::Caller {
+            environment,
+            number,
+            at,
+        })?;
         self.call_function(function_at(program, number), arguments);
         Ok(())
     }
@@ -130,7 +158,11 @@ impl<'a> Machine<'a> {
     }
 
     /// The region of the function's parameters and of its body's own variables is opened.
-    pub(crate) fn enter(&mut self, function: &'a Function, arguments: Vec<Operand>) -> Result<(), AllocError>
+    pub(crate) fn enter(
+        &mut self,
+        function: &'a Function,
+        arguments: Vec<Operand>,
+    ) -> Result<(), AllocError>
         ensures { OnOk result (state_of self.new ≡ step_entering (view_function function.now) (operands_of arguments.items) (stack_of self.old) (environment_of self.old) (world_of self.old)) }
     {
         self.open()?;

@@ -17,14 +17,17 @@ use crate::machine::Machine;
 use crate::objects::Sort;
 use crate::operators::is_kind;
 use crate::value::{Operand, Value};
-
 use cyc_types::typed::{Item, Kind, Lvalue};
 use std::alloc::AllocError;
 
 // ---- the environment
 
 /// An object has this number now, and all others what they had.
-fn put_object(numbers: &mut Vec<Option<usize>>, number: usize, value: usize) -> Result<(), AllocError>
+fn put_object(
+    numbers: &mut Vec<Option<usize>>,
+    number: usize,
+    value: usize,
+) -> Result<(), AllocError>
     ensures { OnOk result ((other : ℕ) → flat (slice_get numbers.new.items other) ≡ (if other == number then Some value else flat (slice_get numbers.old.items other))) }
 {
     if number < numbers.len() {
@@ -190,7 +193,12 @@ impl<'a> Machine<'a> {
 
 impl<'a> Machine<'a> {
     /// A local is a new object in the region of the innermost block.
-    pub(crate) fn declare(&mut self, number: usize, kind: Kind, content: Option<Value>) -> Result<bool, AllocError>
+    pub(crate) fn declare(
+        &mut self,
+        number: usize,
+        kind: Kind,
+        content: Option<Value>,
+    ) -> Result<bool, AllocError>
         ensures proceeding { IfOk result (λ made. after made meaning.Proceeding self.new ≡ declared (region_at (world_of self.old) self.old.environment.home) meaning.Proceeding number kind (option_map view_value content) (stack_of self.old) (environment_of self.old) (world_of self.old)) }
         ensures any { IfOk result (λ made. (focus : meaning.Focus) → after made focus self.new ≡ declared (region_at (world_of self.old) self.old.environment.home) focus number kind (option_map view_value content) (stack_of self.old) (environment_of self.old) (world_of self.old)) }
     {
@@ -205,7 +213,8 @@ impl<'a> Machine<'a> {
             }
             Some(true) => {
                 self.environment.name(number, self.world.objects.len())?;
-                self.world.declare(self.alloc, self.environment.home, kind, content)?;
+                self.world
+                    .declare(self.alloc, self.environment.home, kind, content)?;
                 Ok(true)
             }
         }

@@ -155,7 +155,13 @@ impl World {
     }
 
     /// A variable is an object of one cell.
-    pub(crate) fn declare(&mut self, alloc: Global, region: usize, kind: Kind, content: Option<Value>) -> Result<(), AllocError>
+    pub(crate) fn declare(
+        &mut self,
+        alloc: Global,
+        region: usize,
+        kind: Kind,
+        content: Option<Value>,
+    ) -> Result<(), AllocError>
         ensures { OnOk result (view_world self.new ≡ made (view_world self.old) (variable region kind (option_map view_value content))) }
     {
         let mut cells = Vec::new(alloc);
@@ -172,7 +178,10 @@ impl World {
     pub(crate) fn create(&mut self, owner: Owner, cells: Vec<Cell>) -> Result<Reached, AllocError>
         ensures { IfOk result (λ reached. IsCreated reached (view_world self.old) (view_world self.new) (created (view_world self.old) (view_owner owner) (map view_cell cells.items))) }
     {
-        self.made = self.made.saturating_add(1).saturating_add(cells.len() as u64);
+        self.made = self
+            .made
+            .saturating_add(1)
+            .saturating_add(cells.len() as u64);
         match owner {
             Owner::Unique { live: true } => {
                 self.create_unique(cells)?;

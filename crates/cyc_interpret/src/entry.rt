@@ -2,10 +2,14 @@
 
 ghost use Rattle.std.specs.Prelude.{◌≤◌, ◌<◌};
 
-use crate::value::{Operand, Value, Write};
 use crate::objects::Owner;
+use crate::value::{Operand, Value, Write};
 use cyc_types::Ty;
-use cyc_types::typed::{Body, Callee, Clause, Converted, Dereference, Expr, Function, Initial, Item, Kind, Operation, Operator, PointerOperator, Side, Stmt, UnaryOperator};
+use cyc_types::typed::{
+    Body, Callee, Clause, Converted, Dereference, Expr, Function, Initial, Item, Kind, Operation,
+    Operator, PointerOperator, Side, Stmt, UnaryOperator,
+};
+use cyc_words::Span;
 
 /// What the running call knows. A local or a counter that is not there yet has no number.
 #[derive(Drop)]
@@ -72,6 +76,7 @@ pub enum Entry<'a> {
     },
     Pass {
         callee: Callee,
+        at: Span,
         before: Vec<Operand>,
         arguments: &'a Vec<Converted>,
         from: usize,
@@ -199,8 +204,11 @@ pub enum Entry<'a> {
         from: usize,
         default: &'a Option<Body>,
     },
+    /// The end of a call: what its caller knows, the number of the function, and the place in the text from which it is called.
     Caller {
         environment: Environment,
+        number: usize,
+        at: Span,
     },
     Main,
 }
@@ -240,6 +248,7 @@ pub enum Focus<'a> {
     /// All arguments are evaluated, the newest last.
     Calling {
         callee: Callee,
+        at: Span,
         arguments: Vec<Operand>,
     },
     Entering {

@@ -36,7 +36,12 @@ impl<'a> Machine<'a> {
         }
     }
 
-    pub(crate) fn attempt(&mut self, body: &'a Stmt, clauses: &'a Vec<Clause>, default: &'a Option<Body>) -> Result<(), AllocError>
+    pub(crate) fn attempt(
+        &mut self,
+        body: &'a Stmt,
+        clauses: &'a Vec<Clause>,
+        default: &'a Option<Body>,
+    ) -> Result<(), AllocError>
         ensures { OnOk result (state_of self.new ≡ tries (view_statement body.now) (clauses_of clauses.now.items (default_of default.now)) (stack_of self.old) (environment_of self.old) (world_of self.old)) }
     {
         self.stack.push(Entry::Handler {
@@ -49,7 +54,12 @@ impl<'a> Machine<'a> {
     }
 
     /// The items of a clause are a block. The local that gets the exception's int is in it.
-    fn handle(&mut self, value: u32, number: Option<usize>, items: &'a Vec<Item>) -> Result<(), AllocError>
+    fn handle(
+        &mut self,
+        value: u32,
+        number: Option<usize>,
+        items: &'a Vec<Item>,
+    ) -> Result<(), AllocError>
         ensures { OnOk result (state_of self.new ≡ catches value number (items_of items.now.items) (stack_of self.old) (environment_of self.old) (world_of self.old)) }
     {
         match number {
@@ -71,7 +81,14 @@ impl<'a> Machine<'a> {
     }
 
     /// The clauses of a `try` are tried one by one, from this one on.
-    pub(crate) fn catch(&mut self, tag: usize, value: u32, clauses: &'a Vec<Clause>, from: usize, default: &'a Option<Body>) -> Result<(), AllocError>
+    pub(crate) fn catch(
+        &mut self,
+        tag: usize,
+        value: u32,
+        clauses: &'a Vec<Clause>,
+        from: usize,
+        default: &'a Option<Body>,
+    ) -> Result<(), AllocError>
         ensures { OnOk result (state_of self.new ≡ step_catching tag value (clauses_of (drop from clauses.now.items) (default_of default.now)) (stack_of self.old) (environment_of self.old) (world_of self.old)) }
     {
         match clauses.get(from) {

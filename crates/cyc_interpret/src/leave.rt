@@ -17,7 +17,12 @@ use std::mem;
 
 impl<'a> Machine<'a> {
     /// A parameter is a local that holds its argument.
-    pub(crate) fn bind(&mut self, number: usize, function: &'a Function, arguments: Vec<Operand>) -> Result<(), AllocError>
+    pub(crate) fn bind(
+        &mut self,
+        number: usize,
+        function: &'a Function,
+        arguments: Vec<Operand>,
+    ) -> Result<(), AllocError>
         ensures { OnOk result (state_of self.new ≡ step_binding number (map view_ty (drop number function.now.parameters.items)) (operands_of (drop number arguments.items)) (items_of function.now.body.items) (stack_of self.old) (environment_of self.old) (world_of self.old)) }
     {
         match function.parameters.get(number) {
@@ -57,9 +62,12 @@ impl<'a> Machine<'a> {
     {
         match self.stack.pop() {
             None | Some(Entry::Main) => self.fail(),
-            Some(Entry::Caller {
-                environment: _environment,
-            }) => self.fail(),
+            Some(
+                Entry::Caller {
+                    environment: _environment,
+                    ..
+                },
+            ) => self.fail(),
             Some(Entry::Loop { .. }) => self.go(Focus::Proceeding),
             Some(Entry::CloseRegion { region, home }) => {
                 if self.close(region, home) {
@@ -80,9 +88,12 @@ impl<'a> Machine<'a> {
     {
         match self.stack.pop() {
             None | Some(Entry::Main) => self.fail(),
-            Some(Entry::Caller {
-                environment: _environment,
-            }) => self.fail(),
+            Some(
+                Entry::Caller {
+                    environment: _environment,
+                    ..
+                },
+            ) => self.fail(),
             Some(Entry::Loop { condition, body }) => self.test(condition, body)?,
             Some(Entry::CloseRegion { region, home }) => {
                 if self.close(region, home) {
@@ -105,10 +116,12 @@ impl<'a> Machine<'a> {
         match self.stack.pop() {
             None => self.fail(),
             Some(Entry::Main) => match value {
-                Some(Operand {
-                    value: Value::Int { word },
-                    ..
-                }) => {
+                Some(
+                    Operand {
+                        value: Value::Int { word },
+                        ..
+                    },
+                ) => {
                     self.phase = Phase::Over {
                         end: Over::Returned {
                             value: word.cast_signed(),
@@ -117,7 +130,7 @@ impl<'a> Machine<'a> {
                 }
                 _ => self.fail(),
             },
-            Some(Entry::Caller { environment }) => {
+            Some(Entry::Caller { environment, .. }) => {
                 self.environment = environment;
                 match value {
                     Some(operand) => self.go(Focus::Given { operand }),
@@ -151,7 +164,7 @@ impl<'a> Machine<'a> {
                     },
                 };
             }
-            Some(Entry::Caller { environment }) => {
+            Some(Entry::Caller { environment, .. }) => {
                 self.environment = environment;
                 self.go(Focus::Throwing { tag, value });
             }
@@ -165,11 +178,13 @@ impl<'a> Machine<'a> {
                     self.go(Focus::Throwing { tag, value });
                 }
             }
-            Some(Entry::Handler {
-                clauses,
-                from,
-                default,
-            }) => self.go(Focus::Catching {
+            Some(
+                Entry::Handler {
+                    clauses,
+                    from,
+                    default,
+                },
+            ) => self.go(Focus::Catching {
                 tag,
                 value,
                 clauses,
@@ -191,7 +206,11 @@ impl<'a> Machine<'a> {
             Focus::GivenPlace { place } => self.give_place(place),
             Focus::Executing { statement } => self.execute(statement),
             Focus::Proceeding => self.proceed(),
-            Focus::Calling { callee, arguments } => self.call(program, callee, arguments),
+            Focus::Calling {
+                callee,
+                at,
+                arguments,
+            } => self.call(program, callee, at, arguments),
             Focus::Entering {
                 function,
                 arguments,

@@ -1,8 +1,8 @@
 //! A source program, run step by step as the definition says.
 #![tactic(auto)]
 
-pub use limits::{Counts, Limits};
 pub use entry::Over;
+pub use limits::{Counts, Limits};
 pub use machine::Machine;
 pub use run::{Report, Stop, run_source};
 

@@ -17,14 +17,14 @@ use cyc_types::TypedTree;
 use cyc_types::typed::Callee;
 use std::alloc::AllocError;
 
-/// So many regions, objects and cells take some gigabytes. A run that makes more stops as it does without memory.
-const MOST_MADE: u64 = 40_000_000;
-
 /// The limits of a run: so many pages of the store, and so many calls under way, with that of `main`.
+///
+/// A run that makes more than `made` regions, objects and cells stops as it does without memory: what a program makes is kept to its end.
 #[derive(Clone, Copy)]
 pub struct Limits {
     pub pages: u32,
     pub calls: u32,
+    pub made: u64,
     pub ghost some_pages: { 1 ≤ pages },
     pub ghost some_calls: { 1 ≤ calls },
 }
@@ -160,13 +160,7 @@ impl<'a> Machine<'a> {
     {
         match change {
             Change::Calls => calls + 1,
-            Change::Ends => {
-                if self.ends_call() {
-                    calls - 1
-                } else {
-                    calls
-                }
-            }
+            Change::Ends => { if self.ends_call() { calls - 1 } else { calls } }
             Change::Throws => {
                 if self.ends_call() || self.ends_main() {
                     calls - 1
@@ -212,7 +206,12 @@ impl<'a> Machine<'a> {
     }
 
     /// One step with limits. Returns how many calls are under way after it.
-    pub(crate) fn limited_step(&mut self, program: &'a TypedTree, limits: Limits, calls: u128) -> Result<u128, AllocError>
+    pub(crate) fn limited_step(
+        &mut self,
+        program: &'a TypedTree,
+        limits: Limits,
+        calls: u128,
+    ) -> Result<u128, AllocError>
         requires depth { depth (state_of self.old) ≡ calls }
         requires within { is_within limits.pages limits.calls (state_of self.old) ≡ true }
         ensures step { OnOk result (state_of self.new ≡ limited_step (view_program program.now) limits.pages limits.calls (state_of self.old)) }
@@ -226,7 +225,13 @@ impl<'a> Machine<'a> {
 
     /// So many steps with limits, or fewer if the run is over before.
     #[tactic(auto, using(crate::proofs::LimitLaws::steps_more, crate::proofs::LimitLaws::peak_more))]
-    pub(crate) fn run(&mut self, program: &'a TypedTree, limits: Limits, calls: u128, budget: u64) -> Result<Counts, AllocError>
+    pub(crate) fn run(
+        &mut self,
+        program: &'a TypedTree,
+        limits: Limits,
+        calls: u128,
+        budget: u64,
+    ) -> Result<Counts, AllocError>
         requires depth { depth (state_of self.old) ≡ calls }
         requires within { is_within limits.pages limits.calls (state_of self.old) ≡ true }
         ensures state { IfOk result (λ counts. state_of self.new ≡ limited_steps (view_program program.now) limits.pages limits.calls counts.steps (state_of self.old)) }
@@ -238,7 +243,7 @@ impl<'a> Machine<'a> {
         let mut pages = self.demand();
         let mut most = calls;
         for steps in 0..budget {
-            if self.world.made > MOST_MADE {
+            if self.world.made > limits.made {
                 return Err(AllocError);
             }
             if self.is_over() {

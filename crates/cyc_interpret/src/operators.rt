@@ -134,10 +134,18 @@ pub(crate) fn unary_result(operator: UnaryOperator, value: Value) -> Outcome
 {
     match (operator, value) {
         (UnaryOperator::Not, value) => truth_of_holds(is_zero(value)),
-        (UnaryOperator::Negate, Value::Int { word }) => Outcome::Gives { value: Value::Int { word: sub(0, word) } },
-        (UnaryOperator::Complement, Value::Int { word }) => Outcome::Gives { value: Value::Int { word: !word } },
-        (UnaryOperator::Widen, Value::Int { word }) => Outcome::Gives { value: Value::Int { word } },
-        (UnaryOperator::LowByte, Value::Int { word }) => Outcome::Gives { value: Value::Int { word: word % 256 } },
+        (UnaryOperator::Negate, Value::Int { word }) => Outcome::Gives {
+            value: Value::Int { word: sub(0, word) },
+        },
+        (UnaryOperator::Complement, Value::Int { word }) => Outcome::Gives {
+            value: Value::Int { word: !word },
+        },
+        (UnaryOperator::Widen, Value::Int { word }) => Outcome::Gives {
+            value: Value::Int { word },
+        },
+        (UnaryOperator::LowByte, Value::Int { word }) => Outcome::Gives {
+            value: Value::Int { word: word % 256 },
+        },
         _ => Outcome::Misfits,
     }
 }
@@ -146,7 +154,9 @@ fn truth_of_holds(holds: Option<bool>) -> Outcome
     ensures { view_outcome result ≡ truth_result holds }
 {
     match holds {
-        Some(holds) => Outcome::Gives { value: Value::Int { word: truth(holds) } },
+        Some(holds) => Outcome::Gives {
+            value: Value::Int { word: truth(holds) },
+        },
         None => Outcome::Misfits,
     }
 }

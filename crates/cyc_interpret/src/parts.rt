@@ -65,7 +65,12 @@ impl<'a> Machine<'a> {
     }
 
     /// The first statement if a condition holds, and the second if it fails.
-    pub(crate) fn choose(&mut self, fails: Option<bool>, first: &'a Stmt, second: &'a Stmt) -> Result<(), AllocError>
+    pub(crate) fn choose(
+        &mut self,
+        fails: Option<bool>,
+        first: &'a Stmt,
+        second: &'a Stmt,
+    ) -> Result<(), AllocError>
         ensures { OnOk result (state_of self.new ≡ chosen fails (view_statement first.now) (view_statement second.now) (stack_of self.old) (environment_of self.old) (world_of self.old)) }
     {
         match fails {
@@ -81,7 +86,12 @@ impl<'a> Machine<'a> {
     }
 
     /// The body of a loop if its condition holds.
-    pub(crate) fn repeat(&mut self, fails: Option<bool>, condition: &'a Expr, body: &'a Stmt) -> Result<(), AllocError>
+    pub(crate) fn repeat(
+        &mut self,
+        fails: Option<bool>,
+        condition: &'a Expr,
+        body: &'a Stmt,
+    ) -> Result<(), AllocError>
         ensures { OnOk result (state_of self.new ≡ looped fails (view_expression condition.now) (view_statement body.now) (stack_of self.old) (environment_of self.old) (world_of self.old)) }
     {
         match fails {

@@ -140,7 +140,13 @@ impl<'a> Machine<'a> {
     }
 
     /// That of `e->f`.
-    pub(crate) fn follow_member(&mut self, pointer: Kind, fields: &Vec<Ty>, field: usize, operand: Operand)
+    pub(crate) fn follow_member(
+        &mut self,
+        pointer: Kind,
+        fields: &Vec<Ty>,
+        field: usize,
+        operand: Operand,
+    )
         ensures { state_of self.new ≡ follows_member pointer (map kind_of (map view_ty fields.now.items)) field (view_operand operand) (stack_of self.old) (environment_of self.old) (world_of self.old) }
     {
         if is_kind(operand.kind, pointer) {
@@ -152,7 +158,13 @@ impl<'a> Machine<'a> {
     }
 
     /// The fat pointer of `e[i]` is there, and the index is evaluated.
-    pub(crate) fn index(&mut self, peek: Option<usize>, target: Option<Kind>, index: &'a Expr, base: Operand) -> Result<(), AllocError>
+    pub(crate) fn index(
+        &mut self,
+        peek: Option<usize>,
+        target: Option<Kind>,
+        index: &'a Expr,
+        base: Operand,
+    ) -> Result<(), AllocError>
         ensures { OnOk result (state_of self.new ≡ indexes peek target (view_expression index.now) (view_operand base) (stack_of self.old) (environment_of self.old) (world_of self.old)) }
     {
         if is_kind(base.kind, Kind::Fat) {
@@ -165,19 +177,31 @@ impl<'a> Machine<'a> {
     }
 
     /// The pointer moves by the index, and then its access is checked.
-    pub(crate) fn advance(&mut self, target: Option<Kind>, base: Operand, index: Operand) -> Result<(), AllocError>
+    pub(crate) fn advance(
+        &mut self,
+        target: Option<Kind>,
+        base: Operand,
+        index: Operand,
+    ) -> Result<(), AllocError>
         ensures { OnOk result (state_of self.new ≡ advances target (view_operand base) (view_operand index) (stack_of self.old) (environment_of self.old) (world_of self.old)) }
     {
         self.stack.push(Entry::Follow {
             pointer: Kind::Fat,
             target,
         })?;
-        self.compute(Kind::Fat, pointer_result(PointerOperator::AddFat, base.value, index.value));
+        self.compute(
+            Kind::Fat,
+            pointer_result(PointerOperator::AddFat, base.value, index.value),
+        );
         Ok(())
     }
 
     /// A place that a pointer leads to is evaluated.
-    pub(crate) fn locate(&mut self, program: &'a TypedTree, place: &'a Dereference) -> Result<(), AllocError>
+    pub(crate) fn locate(
+        &mut self,
+        program: &'a TypedTree,
+        place: &'a Dereference,
+    ) -> Result<(), AllocError>
         ensures { OnOk result (state_of self.new ≡ step_locating (view_program program.now) (view_dereference place.now) (stack_of self.old) (environment_of self.old) (world_of self.old)) }
     {
         match place {
@@ -217,7 +241,13 @@ impl<'a> Machine<'a> {
         Ok(())
     }
 
-    fn locate_member(&mut self, of_struct: Option<&'a StructType>, kind: Kind, pointer: &'a Expr, field: usize) -> Result<(), AllocError>
+    fn locate_member(
+        &mut self,
+        of_struct: Option<&'a StructType>,
+        kind: Kind,
+        pointer: &'a Expr,
+        field: usize,
+    ) -> Result<(), AllocError>
         ensures { OnOk result (state_of self.new ≡ locates_member (option_map (λ s. view_struct s.now) of_struct.entry) kind (view_expression pointer.now) field (stack_of self.old) (environment_of self.old) (world_of self.old)) }
     {
         match of_struct {
@@ -245,7 +275,9 @@ impl<'a> Machine<'a> {
                 self.stack.push(Entry::StoreCell { peek, place })?;
                 self.await_converted(value)?;
             }
-            Some(Entry::SwapLeft { kind, peek, right }) => self.find_right(kind, peek, true, place, right)?,
+            Some(Entry::SwapLeft { kind, peek, right }) => self.find_right(
+                kind, peek, true, place, right,
+            )?,
             Some(Entry::SwapRight { kind, left, .. }) => self.find_both(kind, left, place),
             None => self.fail(),
             Some(_entry) => self.fail(),

@@ -148,9 +148,10 @@ pub(crate) fn takes_kind(operator: PointerOperator, kind: Kind) -> bool
     ensures { result ≡ takes_kind operator kind }
 {
     match operator {
-        PointerOperator::AddFat | PointerOperator::SubtractFat | PointerOperator::FatIsNull | PointerOperator::FatIsNotNull => {
-            is_kind(kind, Kind::Fat)
-        }
+        PointerOperator::AddFat
+        | PointerOperator::SubtractFat
+        | PointerOperator::FatIsNull
+        | PointerOperator::FatIsNotNull => { is_kind(kind, Kind::Fat) }
         _ => is_thin(kind),
     }
 }

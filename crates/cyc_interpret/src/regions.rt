@@ -16,7 +16,13 @@ use std::alloc::AllocError;
 
 impl<'a> Machine<'a> {
     /// A local is made that holds something from the start, and what is left of its block goes on.
-    pub(crate) fn name(&mut self, number: usize, operand: Operand, items: &'a Vec<Item>, from: usize) -> Result<(), AllocError>
+    pub(crate) fn name(
+        &mut self,
+        number: usize,
+        operand: Operand,
+        items: &'a Vec<Item>,
+        from: usize,
+    ) -> Result<(), AllocError>
         ensures { OnOk result (state_of self.new ≡ step_naming number (view_operand operand) (items_of (drop from items.now.items)) (stack_of self.old) (environment_of self.old) (world_of self.old)) }
     {
         self.stack.push(Entry::Rest { items, from })?;
@@ -27,7 +33,12 @@ impl<'a> Machine<'a> {
     }
 
     /// A lexical region is opened, and then its handle is made.
-    pub(crate) fn open_lexical(&mut self, number: usize, items: &'a Vec<Item>, from: usize) -> Result<(), AllocError>
+    pub(crate) fn open_lexical(
+        &mut self,
+        number: usize,
+        items: &'a Vec<Item>,
+        from: usize,
+    ) -> Result<(), AllocError>
         ensures { OnOk result (state_of self.new ≡ opens_lexical number (items_of (drop from items.now.items)) (stack_of self.old) (environment_of self.old) (world_of self.old)) }
     {
         let region = self.world.regions.len();
@@ -46,7 +57,12 @@ impl<'a> Machine<'a> {
     }
 
     /// `new_ukey` opens a region, and its key is a local.
-    pub(crate) fn open_dynamic(&mut self, number: usize, items: &'a Vec<Item>, from: usize) -> Result<(), AllocError>
+    pub(crate) fn open_dynamic(
+        &mut self,
+        number: usize,
+        items: &'a Vec<Item>,
+        from: usize,
+    ) -> Result<(), AllocError>
         ensures { OnOk result (state_of self.new ≡ opens_dynamic number (items_of (drop from items.now.items)) (stack_of self.old) (environment_of self.old) (world_of self.old)) }
     {
         let region = self.world.regions.len();
@@ -64,7 +80,13 @@ impl<'a> Machine<'a> {
     }
 
     /// `open` reads the key of a region.
-    pub(crate) fn open_by_key(&mut self, number: usize, key: usize, items: &'a Vec<Item>, from: usize) -> Result<(), AllocError>
+    pub(crate) fn open_by_key(
+        &mut self,
+        number: usize,
+        key: usize,
+        items: &'a Vec<Item>,
+        from: usize,
+    ) -> Result<(), AllocError>
         ensures { OnOk result (state_of self.new ≡ opens_by_key number key (items_of (drop from items.now.items)) (stack_of self.old) (environment_of self.old) (world_of self.old)) }
     {
         self.stack.push(Entry::OpenBy {
@@ -80,7 +102,14 @@ impl<'a> Machine<'a> {
 
     /// A local becomes the handle of a dynamic region that is open.
     #[tactic(auto, using(crate::proofs::Closes::opens_by, crate::proofs::Closes::opens_no_other))]
-    fn open_region(&mut self, region: usize, number: usize, lent: usize, items: &'a Vec<Item>, from: usize) -> Result<(), AllocError>
+    fn open_region(
+        &mut self,
+        region: usize,
+        number: usize,
+        lent: usize,
+        items: &'a Vec<Item>,
+        from: usize,
+    ) -> Result<(), AllocError>
         ensures { OnOk result (state_of self.new ≡ opened_by (region_at (world_of self.old) region) region number lent (items_of (drop from items.now.items)) (stack_of self.old) (environment_of self.old) (world_of self.old)) }
     {
         match self.world.is_open(region) {
@@ -106,7 +135,14 @@ impl<'a> Machine<'a> {
         Ok(())
     }
 
-    pub(crate) fn open_with(&mut self, number: usize, lent: usize, items: &'a Vec<Item>, from: usize, key: Value) -> Result<(), AllocError>
+    pub(crate) fn open_with(
+        &mut self,
+        number: usize,
+        lent: usize,
+        items: &'a Vec<Item>,
+        from: usize,
+        key: Value,
+    ) -> Result<(), AllocError>
         ensures { OnOk result (state_of self.new ≡ opens_with number lent (items_of (drop from items.now.items)) (view_value key) (stack_of self.old) (environment_of self.old) (world_of self.old)) }
     {
         match key {
@@ -145,7 +181,14 @@ impl<'a> Machine<'a> {
     }
 
     /// The unique pointer of a local is read, which another local is to hold too.
-    pub(crate) fn alias(&mut self, number: usize, kind: Kind, source: usize, items: &'a Vec<Item>, from: usize) -> Result<(), AllocError>
+    pub(crate) fn alias(
+        &mut self,
+        number: usize,
+        kind: Kind,
+        source: usize,
+        items: &'a Vec<Item>,
+        from: usize,
+    ) -> Result<(), AllocError>
         ensures { OnOk result (state_of self.new ≡ aliases number kind source (items_of (drop from items.now.items)) (stack_of self.old) (environment_of self.old) (world_of self.old)) }
     {
         self.stack.push(Entry::AliasOf {
@@ -159,7 +202,14 @@ impl<'a> Machine<'a> {
         Ok(())
     }
 
-    pub(crate) fn alias_as(&mut self, number: usize, lent: usize, items: &'a Vec<Item>, from: usize, operand: Operand) -> Result<(), AllocError>
+    pub(crate) fn alias_as(
+        &mut self,
+        number: usize,
+        lent: usize,
+        items: &'a Vec<Item>,
+        from: usize,
+        operand: Operand,
+    ) -> Result<(), AllocError>
         ensures { OnOk result (state_of self.new ≡ aliased number lent (items_of (drop from items.now.items)) (view_operand operand) (stack_of self.old) (environment_of self.old) (world_of self.old)) }
     {
         self.stack.push(Entry::EndLoan { lent })?;

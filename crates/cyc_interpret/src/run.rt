@@ -97,7 +97,13 @@ impl<'a> Machine<'a> {
 
 /// What a program comes to on an input, and what it prints.
 #[tactic(auto, using(cyc_meaning::proofs::RunLaws::start_calls, cyc_meaning::proofs::RunLaws::within_at_start))]
-fn run_on(alloc: Global, tree: &TypedTree, limits: Limits, budget: u64, input: Vec<u8>) -> Result<(Report, Vec<u8>), AllocError>
+fn run_on(
+    alloc: Global,
+    tree: &TypedTree,
+    limits: Limits,
+    budget: u64,
+    input: Vec<u8>,
+) -> Result<(Report, Vec<u8>), AllocError>
     ensures run { IfOk result (λ both. RunsOn (view_program tree.now) limits.pages limits.calls input.items both.1.items both.0) }
     ensures budget { IfOk result (λ both. both.0.steps ≤ budget) }
     ensures ends { NeverFails (view_program tree.now) → IfOk result (λ both. EndsWell both.0.end) }
@@ -120,7 +126,14 @@ fn run_on(alloc: Global, tree: &TypedTree, limits: Limits, budget: u64, input: V
 /// The report tells the end, if the run came to one within its budget of steps, how many steps it took, how many bytes of the input are not
 /// read, and the greatest demand and depth. It stops where memory runs out or a device fails. A program that no input makes dead or wrong is
 /// never reported as such.
-pub fn run_source<R: ByteIn, W: ByteOut>(alloc: Global, tree: &TypedTree, limits: Limits, budget: u64, reader: &mut R, writer: &mut W) -> Result<Report, Stop>
+pub fn run_source<R: ByteIn, W: ByteOut>(
+    alloc: Global,
+    tree: &TypedTree,
+    limits: Limits,
+    budget: u64,
+    reader: &mut R,
+    writer: &mut W,
+) -> Result<Report, Stop>
     ensures run { IfOk result (λ report. RunsAs (view_program tree.now) limits.pages limits.calls report (R.remaining reader.old) (R.remaining reader.new) (W.written writer.old) (W.written writer.new)) }
     ensures budget { IfOk result (λ report. report.steps ≤ budget) }
     ensures ends { NeverFails (view_program tree.now) → IfOk result (λ report. EndsWell report.end) }

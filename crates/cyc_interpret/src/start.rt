@@ -77,7 +77,11 @@ fn first_world(alloc: Global, program: &TypedTree, input: Vec<u8>) -> Result<Wor
 
 impl<'a> Machine<'a> {
     /// `main` is called, nothing is printed yet, and all of the input is still to be read.
-    pub fn start(alloc: Global, program: &'a TypedTree, input: Vec<u8>) -> Result<Machine<'a>, AllocError>
+    pub fn start(
+        alloc: Global,
+        program: &'a TypedTree,
+        input: Vec<u8>,
+    ) -> Result<Machine<'a>, AllocError>
         ensures { IfOk result (λ machine. state_of machine ≡ start (view_program program.now) input.items) }
     {
         let world = first_world(alloc, program, input)?;

@@ -35,17 +35,29 @@ impl<'a> Machine<'a> {
                 let object = self.environment.object_of(*source);
                 self.load_from(kind_of(of_type), object);
             }
-            Expr::Move { number, of_type, .. } | Expr::Peek { number, of_type, .. } => {
+            Expr::Move {
+                number,
+                of_type,
+                ..
+            }
+            | Expr::Peek {
+                number,
+                of_type,
+                ..
+            } => {
                 let object = self.environment.local(*number);
                 self.load_from(kind_of(of_type), object);
             }
             Expr::Call {
+                span,
                 callee,
                 arguments,
                 ..
-            } => self.pass(*callee, Vec::new(self.alloc), arguments, 0)?,
+            } => self.pass(*callee, *span, Vec::new(self.alloc), arguments, 0)?,
             Expr::Unary { operator, operand } => {
-                self.stack.push(Entry::Operate { operator: *operator })?;
+                self.stack.push(Entry::Operate {
+                    operator: *operator,
+                })?;
                 self.go(Focus::Evaluating { value: operand });
             }
             Expr::Binary { first, rest, .. } => {
@@ -94,23 +106,32 @@ impl<'a> Machine<'a> {
                 self.go(Focus::Locating { place: target });
             }
             Expr::New {
-                placement, initial, ..
+                placement,
+                initial,
+                ..
             } => self.allocate(placement, initial)?,
         }
         Ok(())
     }
 
     /// A chain goes on from this operation, with the value of all before.
-    pub(crate) fn chain(&mut self, rest: &'a Vec<Operation>, from: usize, left: Operand) -> Result<(), AllocError>
+    pub(crate) fn chain(
+        &mut self,
+        rest: &'a Vec<Operation>,
+        from: usize,
+        left: Operand,
+    ) -> Result<(), AllocError>
         ensures { OnOk result (state_of self.new ≡ chained (operations_of (drop from rest.now.items)) (view_operand left) (stack_of self.old) (environment_of self.old) (world_of self.old)) }
     {
         match rest.get(from) {
             None => self.go(Focus::Given { operand: left }),
-            Some(Operation::Compute {
-                operator,
-                operand,
-                ..
-            }) => {
+            Some(
+                Operation::Compute {
+                    operator,
+                    operand,
+                    ..
+                },
+            ) => {
                 if is_kind(left.kind, Kind::Int) {
                     self.stack.push(Entry::Chain {
                         rest,
@@ -145,18 +166,35 @@ impl<'a> Machine<'a> {
                     }
                 }
             },
-            Some(Operation::Pointer { operator, operand }) => self.await_right(None, *operator, left, rest, from + 1, operand)?,
-            Some(Operation::PointerPeek {
-                number,
-                operator,
+            Some(Operation::Pointer { operator, operand }) => self.await_right(
+                None,
+                *operator,
+                left,
+                rest,
+                from + 1,
                 operand,
-            }) => self.await_right(Some(*number), *operator, left, rest, from + 1, operand)?,
+            )?,
+            Some(
+                Operation::PointerPeek {
+                    number,
+                    operator,
+                    operand,
+                },
+            ) => self.await_right(Some(*number), *operator, left, rest, from + 1, operand)?,
         }
         Ok(())
     }
 
     /// The right operand of a pointer's operator is evaluated if the left one has a kind that it takes.
-    fn await_right(&mut self, peek: Option<usize>, operator: PointerOperator, left: Operand, rest: &'a Vec<Operation>, from: usize, operand: &'a Expr) -> Result<(), AllocError>
+    fn await_right(
+        &mut self,
+        peek: Option<usize>,
+        operator: PointerOperator,
+        left: Operand,
+        rest: &'a Vec<Operation>,
+        from: usize,
+        operand: &'a Expr,
+    ) -> Result<(), AllocError>
         ensures { OnOk result (state_of self.new ≡ awaits_right (takes_kind operator left.kind) (ApplyPointer peek operator (view_operand left)) (view_expression operand.now) (operations_of (drop from rest.now.items)) (stack_of self.old) (environment_of self.old) (world_of self.old)) }
     {
         if takes_kind(operator, left.kind) {
@@ -221,11 +259,7 @@ impl<'a> Machine<'a> {
     fn tell(&mut self, negated: bool, equal: bool)
         ensures { state_of self.new ≡ tells negated (meaning.Found equal) (stack_of self.old) (environment_of self.old) (world_of self.old) }
     {
-        let word = if negated {
-            truth(!equal)
-        } else {
-            truth(equal)
-        };
+        let word = if negated { truth(!equal) } else { truth(equal) };
         self.give(Kind::Int, Value::Int { word });
     }
 
@@ -276,7 +310,11 @@ impl<'a> Machine<'a> {
                 })?;
                 self.go(Focus::Evaluating { value: condition });
             }
-            Stmt::While { condition, body, .. } => self.test(condition, body)?,
+            Stmt::While {
+                condition,
+                body,
+                ..
+            } => self.test(condition, body)?,
             Stmt::Return { value, .. } => self.await_returned(value)?,
             Stmt::Break => self.go(Focus::Breaking),
             Stmt::Continue => self.go(Focus::Continuing),
@@ -318,27 +356,47 @@ impl<'a> Machine<'a> {
                 })?;
                 self.go(Focus::Executing { statement });
             }
-            Some(Item::Local {
-                number,
-                of_type,
-                value,
-                ..
-            }) => self.make_local(*number, of_type, value, items, from + 1)?,
+            Some(
+                Item::Local {
+                    number,
+                    of_type,
+                    value,
+                    ..
+                },
+            ) => self.make_local(*number, of_type, value, items, from + 1)?,
             Some(Item::Region { number, .. }) => self.open_lexical(*number, items, from + 1)?,
-            Some(Item::Open { number, key, .. }) => self.open_by_key(*number, *key, items, from + 1)?,
-            Some(Item::Alias {
-                number,
-                of_type,
-                source,
-                ..
-            }) => self.alias(*number, kind_of(of_type), *source, items, from + 1)?,
-            Some(Item::DynamicRegion { number, .. }) => self.open_dynamic(*number, items, from + 1)?,
+            Some(Item::Open { number, key, .. }) => self.open_by_key(
+                *number,
+                *key,
+                items,
+                from + 1,
+            )?,
+            Some(
+                Item::Alias {
+                    number,
+                    of_type,
+                    source,
+                    ..
+                },
+            ) => self.alias(*number, kind_of(of_type), *source, items, from + 1)?,
+            Some(Item::DynamicRegion { number, .. }) => self.open_dynamic(
+                *number,
+                items,
+                from + 1,
+            )?,
         }
         Ok(())
     }
 
     /// An initial value is evaluated before its local is made. Without one the local holds nothing yet.
-    fn make_local(&mut self, number: usize, of_type: &'a Ty, value: &'a Option<Converted>, items: &'a Vec<Item>, from: usize) -> Result<(), AllocError>
+    fn make_local(
+        &mut self,
+        number: usize,
+        of_type: &'a Ty,
+        value: &'a Option<Converted>,
+        items: &'a Vec<Item>,
+        from: usize,
+    ) -> Result<(), AllocError>
         ensures { OnOk result (state_of self.new ≡ declares number (view_ty of_type.now) (option_map view_converted value.now) (items_of (drop from items.now.items)) (stack_of self.old) (environment_of self.old) (world_of self.old)) }
     {
         match value {
@@ -380,7 +438,7 @@ impl<'a> Machine<'a> {
                 }
             }
             Some(Entry::EndLoan { .. }) | Some(Entry::Handler { .. }) => self.go(Focus::Proceeding),
-            Some(Entry::Caller { environment }) => {
+            Some(Entry::Caller { environment, .. }) => {
                 self.environment = environment;
                 self.go(Focus::Proceeding);
             }

@@ -33,13 +33,22 @@ impl<'a> Machine<'a> {
         ensures { result ≡ leads_to (world_of self.now) (target_by (view_expression value.now)) (view_reach reach) }
     {
         match reach {
-            Reach::At { object, offset } => self.world.leads_to(target_by(value), Reach::At { object, offset }),
+            Reach::At { object, offset } => self
+                .world
+                .leads_to(target_by(value), Reach::At { object, offset }),
             _ => true,
         }
     }
 
     /// A local gets its initial value. The rest of its block comes after it.
-    fn initialise(&mut self, number: usize, kind: Kind, items: &'a Vec<Item>, from: usize, operand: Operand) -> Result<(), AllocError>
+    fn initialise(
+        &mut self,
+        number: usize,
+        kind: Kind,
+        items: &'a Vec<Item>,
+        from: usize,
+        operand: Operand,
+    ) -> Result<(), AllocError>
         ensures { OnOk result (state_of self.new ≡ initialises number kind (items_of (drop from items.now.items)) (view_operand operand) (stack_of self.old) (environment_of self.old) (world_of self.old)) }
     {
         if is_kind(operand.kind, kind) {
@@ -65,7 +74,10 @@ impl<'a> Machine<'a> {
             }
             Some(Entry::Chain { rest, from }) => self.chain(rest, from, operand)?,
             Some(Entry::Apply { operator, left }) => {
-                self.compute(Kind::Int, binary_result(operator, left.value, operand.value));
+                self.compute(
+                    Kind::Int,
+                    binary_result(operator, left.value, operand.value),
+                );
             }
             Some(Entry::Decide) => self.compute(Kind::Int, truth_of(is_zero(operand.value))),
             Some(Entry::Store { object }) => {
@@ -73,22 +85,27 @@ impl<'a> Machine<'a> {
                     self.go(Focus::Given { operand });
                 }
             }
-            Some(Entry::Pass {
-                callee,
-                before,
-                arguments,
-                from,
-            }) => {
+            Some(
+                Entry::Pass {
+                    callee,
+                    at,
+                    before,
+                    arguments,
+                    from,
+                },
+            ) => {
                 let mut before = before;
                 before.push(operand)?;
-                self.pass(callee, before, arguments, from)?;
+                self.pass(callee, at, before, arguments, from)?;
             }
-            Some(Entry::Initialise {
-                number,
-                kind,
-                items,
-                from,
-            }) => self.initialise(number, kind, items, from, operand)?,
+            Some(
+                Entry::Initialise {
+                    number,
+                    kind,
+                    items,
+                    from,
+                },
+            ) => self.initialise(number, kind, items, from, operand)?,
             Some(Entry::Choose { first, second }) => {
                 self.choose(is_zero(operand.value), first, second)?;
             }
@@ -98,23 +115,31 @@ impl<'a> Machine<'a> {
             Some(Entry::Return) => self.go(Focus::Returning {
                 value: Some(operand),
             }),
-            Some(Entry::ApplyPointer { operator, left, .. }) => self.apply_pointer(operator, left.value, operand.value),
+            Some(Entry::ApplyPointer { operator, left, .. }) => self.apply_pointer(
+                operator,
+                left.value,
+                operand.value,
+            ),
             Some(Entry::StoreCell { place, .. }) => {
                 if self.store_at(place, operand) {
                     self.go(Focus::Given { operand });
                 }
             }
             Some(Entry::Follow { pointer, target }) => self.follow(pointer, target, operand),
-            Some(Entry::FollowMember {
-                pointer,
-                fields,
-                field,
-            }) => self.follow_member(pointer, fields, field, operand),
-            Some(Entry::Index {
-                peek,
-                target,
-                index,
-            }) => self.index(peek, target, index, operand)?,
+            Some(
+                Entry::FollowMember {
+                    pointer,
+                    fields,
+                    field,
+                },
+            ) => self.follow_member(pointer, fields, field, operand),
+            Some(
+                Entry::Index {
+                    peek,
+                    target,
+                    index,
+                },
+            ) => self.index(peek, target, index, operand)?,
             Some(Entry::Advance { target, base, .. }) => self.advance(target, base, operand)?,
             Some(Entry::CountElements) => self.compute(Kind::Int, element_count(operand.value)),
             Some(Entry::FreeObject) => self.free(operand.value),
@@ -122,47 +147,59 @@ impl<'a> Machine<'a> {
             Some(Entry::PlaceBy { initial }) => self.make_by(initial, operand.value)?,
             Some(Entry::BesideHandle { .. }) => self.go(Focus::Given { operand }),
             Some(Entry::MakePlain { owner, kind }) => self.make_plain(owner, kind, operand)?,
-            Some(Entry::MakeFields {
-                owner,
-                before,
-                fields,
-                from,
-            }) => {
+            Some(
+                Entry::MakeFields {
+                    owner,
+                    before,
+                    fields,
+                    from,
+                },
+            ) => {
                 let mut before = before;
                 before.push(operand)?;
                 self.make_fields(owner, before, fields, from)?;
             }
-            Some(Entry::MakeArray {
-                owner,
-                level,
-                kind,
-                element,
-            }) => self.make_array(owner, level, kind, element, operand.value),
-            Some(Entry::FillElement {
-                slot,
-                kind,
-                element,
-            }) => self.fill_element(slot, kind, element, operand),
+            Some(
+                Entry::MakeArray {
+                    owner,
+                    level,
+                    kind,
+                    element,
+                },
+            ) => self.make_array(owner, level, kind, element, operand.value),
+            Some(
+                Entry::FillElement {
+                    slot,
+                    kind,
+                    element,
+                },
+            ) => self.fill_element(slot, kind, element, operand),
             Some(Entry::ThrowWith { tag }) => self.raise_with(tag, operand.value),
-            Some(Entry::OpenBy {
-                number,
-                lent,
-                items,
-                from,
-            }) => self.open_with(number, lent, items, from, operand.value)?,
-            Some(Entry::AliasOf {
-                number,
-                lent,
-                items,
-                from,
-            }) => self.alias_as(number, lent, items, from, operand)?,
+            Some(
+                Entry::OpenBy {
+                    number,
+                    lent,
+                    items,
+                    from,
+                },
+            ) => self.open_with(number, lent, items, from, operand.value)?,
+            Some(
+                Entry::AliasOf {
+                    number,
+                    lent,
+                    items,
+                    from,
+                },
+            ) => self.alias_as(number, lent, items, from, operand)?,
             Some(Entry::LoadFrom { .. })
             | Some(Entry::TakeAddress)
             | Some(Entry::StoreTo { .. })
             | Some(Entry::SwapLeft { .. })
             | Some(Entry::SwapRight { .. }) => self.fail(),
             Some(Entry::Rest { .. }) | Some(Entry::Join) | Some(Entry::Loop { .. }) => self.fail(),
-            Some(Entry::CloseRegion { .. }) | Some(Entry::CloseLexical { .. }) | Some(Entry::EndLoan { .. }) => self.fail(),
+            Some(Entry::CloseRegion { .. })
+            | Some(Entry::CloseLexical { .. })
+            | Some(Entry::EndLoan { .. }) => self.fail(),
             Some(Entry::Handler { .. }) | Some(Entry::Main) => self.fail(),
             Some(_entry) => self.fail(),
         }

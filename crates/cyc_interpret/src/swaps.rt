@@ -36,7 +36,14 @@ impl<'a> Machine<'a> {
         }
     }
 
-    pub(crate) fn find_right(&mut self, kind: Kind, peek: Option<usize>, is_cell: bool, left: Value, right: &'a Side) -> Result<(), AllocError>
+    pub(crate) fn find_right(
+        &mut self,
+        kind: Kind,
+        peek: Option<usize>,
+        is_cell: bool,
+        left: Value,
+        right: &'a Side,
+    ) -> Result<(), AllocError>
         ensures { OnOk result (state_of self.new ≡ finds_right kind peek is_cell (view_value left) (view_side right.now) (stack_of self.old) (environment_of self.old) (world_of self.old)) }
     {
         match right {
@@ -57,12 +64,23 @@ impl<'a> Machine<'a> {
         Ok(())
     }
 
-    fn find_left_object(&mut self, kind: Kind, object: Option<usize>, right: &'a Side) -> Result<(), AllocError>
+    fn find_left_object(
+        &mut self,
+        kind: Kind,
+        object: Option<usize>,
+        right: &'a Side,
+    ) -> Result<(), AllocError>
         ensures { OnOk result (state_of self.new ≡ finds_left_object kind object (view_side right.now) (stack_of self.old) (environment_of self.old) (world_of self.old)) }
     {
         match object {
             None => self.fail(),
-            Some(object) => self.find_right(kind, None, false, Value::Thin { object, offset: 0 }, right)?,
+            Some(object) => self.find_right(
+                kind,
+                None,
+                false,
+                Value::Thin { object, offset: 0 },
+                right,
+            )?,
         }
         Ok(())
     }
@@ -87,7 +105,14 @@ impl<'a> Machine<'a> {
         Ok(())
     }
 
-    fn swap_read(&mut self, kind: Kind, left: Value, right: Value, before: Option<Operand>, value: Value)
+    fn swap_read(
+        &mut self,
+        kind: Kind,
+        left: Value,
+        right: Value,
+        before: Option<Operand>,
+        value: Value,
+    )
         ensures { state_of self.new ≡ swap_read kind (view_value left) (view_value right) (option_map view_operand before) (view_value value) (stack_of self.old) (environment_of self.old) (world_of self.old) }
     {
         let operand = Operand { kind, value };
@@ -111,7 +136,14 @@ impl<'a> Machine<'a> {
         }
     }
 
-    fn swap_content(&mut self, kind: Kind, left: Value, right: Value, before: Option<Operand>, content: Option<Value>)
+    fn swap_content(
+        &mut self,
+        kind: Kind,
+        left: Value,
+        right: Value,
+        before: Option<Operand>,
+        content: Option<Value>,
+    )
         ensures { state_of self.new ≡ swap_content kind (view_value left) (view_value right) (option_map view_operand before) (option_map view_value content) (stack_of self.old) (environment_of self.old) (world_of self.old) }
     {
         match content {
@@ -121,7 +153,14 @@ impl<'a> Machine<'a> {
     }
 
     /// One of both places is read.
-    fn swap_load_at(&mut self, kind: Kind, left: Value, right: Value, before: Option<Operand>, place: Value)
+    fn swap_load_at(
+        &mut self,
+        kind: Kind,
+        left: Value,
+        right: Value,
+        before: Option<Operand>,
+        place: Value,
+    )
         ensures { state_of self.new ≡ swap_loaded_at kind (view_value left) (view_value right) (option_map view_operand before) (view_value place) (stack_of self.old) (environment_of self.old) (world_of self.old) }
     {
         match place {
@@ -140,7 +179,13 @@ impl<'a> Machine<'a> {
         }
     }
 
-    pub(crate) fn exchange(&mut self, kind: Kind, left: Value, right: Value, before: Option<Operand>)
+    pub(crate) fn exchange(
+        &mut self,
+        kind: Kind,
+        left: Value,
+        right: Value,
+        before: Option<Operand>,
+    )
         ensures { state_of self.new ≡ step_swapping kind (view_value left) (view_value right) (option_map view_operand before) (stack_of self.old) (environment_of self.old) (world_of self.old) }
     {
         match before {

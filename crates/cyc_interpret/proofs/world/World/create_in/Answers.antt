@@ -23,7 +23,7 @@ invariant_of-self-2 c =
     let w = c.args.self.now in
     let within = open_within w.regions.items c.args.region c.requires in
     let same : c.index.result.now ≡ c.index_mut.result.now =
-        c.index.ensures ∙ (get_or_default w.regions.items c.args.region c.index.result.now c.index_mut.result.now within ∙ sym c.index_mut.ensures.value) in
+    c.index.ensures ∙ (get_or_default w.regions.items c.args.region c.index.result.now c.index_mut.result.now within ∙ sym c.index_mut.ensures.value) in
     let grown = subst (λ (x : RegionCode). pages_in (record (view_region x) { blocks = x.blocks.items ++ c.block_size-size.result ∷ [] }) ≡ pages_in (view_region x) + c.growth.result) same c.growth.ensures in record {
       demand = grown_pages w.regions.items c.args.region c.index_mut.result.now c.add.new.self w.classes within c.index_mut.ensures.value w.pages w.demand c.growth.result c.in_ok-pages.pages (c.index_mut.result.now.blocks.items ++ c.block_size-size.result ∷ []) c.in_ok-add.ensures.added grown c.in_ok-pages.ensures;
       counts = region_counts w.objects.items c.push.new.self.items (record { owner = owner.InRegion c.args.region; cells = c.args.cells }) c.args.region refl c.in_ok-push.ensures.items w.live w.counts;
