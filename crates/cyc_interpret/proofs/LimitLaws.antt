@@ -1,14 +1,14 @@
 -- A step with limits: what is seen of it, and how many calls are under way after it.
-use Rattle.std.proofs.Common.{◌≡◌, ℕ, zero, suc, ◌+◌, ◌-◌, ◌≤◌, Bool, true, false, List, [], ◌∷◌, ◌++◌, map, reverse, take, length, drop, Option, Some, None, option_map, refl, ap, sym, ◌∙◌, arith, append-nil}
-use Rattle.std.specs.Prelude.{◌&&◌, nat_le, max, if◌then◌else◌, slice_get}
-use Rattle.std.proofs.lemmas.Bool.{le-leb, and_from}
+use Rattle.std.proofs.Common.{◌≡◌, ℕ, zero, suc, ◌+◌, ◌-◌, ◌≤◌, ◌<◌, Bool, true, false, List, [], ◌∷◌, ◌++◌, map, reverse, take, length, drop, Option, Some, None, option_map, refl, ap, sym, ◌∙◌, arith, append-nil}
+use Rattle.std.specs.Prelude.{◌==◌, ◌&&◌, nat_le, max, if◌then◌else◌, slice_get}
+use Rattle.std.proofs.lemmas.Bool.{eqb-true, eqb-false, le-leb, and_from}
 use Rattle.std.proofs.lemmas.List.{map-append, reverse-append}
 use Rattle.cyc_words.specs.Ending.{Full}
 use Rattle.cyc_types.specs.declared.typed.Callee.TheVariants as callees
 use Rattle.cyc_types.specs.TypedTrees.{Program}
 use Rattle.cyc_meaning.specs.Values.{Value, Int, Operand}
 use Rattle.cyc_meaning.specs.State.{World, Environment, Entry, Caller, Main, Focus, Evaluating, Locating, Given, GivenPlace, Executing, Proceeding, Calling, Entering, Binding, Naming, Writing, Beginning, Repeating, Swapping, Breaking, Continuing, Returning, Throwing, Catching}
-use Rattle.cyc_meaning.specs.State.{State, Running, Ended, Dead, Wrong, GoesOn, status_of, output_of, input_of, demand, depth, calls_in}
+use Rattle.cyc_meaning.specs.State.{State, Running, Ended, Dead, Wrong, Status, GoesOn, HasEnded, IsDead, IsWrong, status_of, output_of, input_of, demand, depth, calls_in}
 use Rattle.cyc_meaning.specs.inside.Effects.{printed_by, read_by, calls_after}
 use Rattle.cyc_meaning.specs.Step.{prints, reads, values_of, step}
 use Rattle.cyc_meaning.specs.Run.{is_within, limited, limited_step, limited_steps}
@@ -16,7 +16,7 @@ use Rattle.cyc_meaning.proofs.RunLaws.{step_prints, step_reads, step_calls}
 use Rattle.cyc_interpret.specs.declared.entry.Entry.{Entry as EntryCode}
 use Rattle.cyc_interpret.specs.View.{view_entry, view_stack}
 use Rattle.cyc_interpret.specs.declared.limits.Change.TheVariants as change
-use Rattle.cyc_interpret.specs.Run.{ends_call, ends_main, change_of, calls_by, peak_of}
+use Rattle.cyc_interpret.specs.Run.{is_over, ends_call, ends_main, change_of, calls_by, peak_of}
 
 -- ---- limits
 
@@ -170,3 +170,23 @@ pub peak_more : (value : ℕ → ℕ) (n m : ℕ) → m ≡ n + 1 → peak_of va
 peak_more value n m is =
     let next : m ≡ suc n = omega (arith, is) in
     ap (λ (k : ℕ). peak_of value k) next ∙ ap (λ (k : ℕ). max (peak_of value n) (value k)) (sym next)
+
+-- no step is taken after the end
+pub going_more : (status : ℕ → Status) (n m : ℕ) → m ≡ n + 1 → ((k : ℕ) → k < n → status k ≡ GoesOn) → status n ≡ GoesOn → (k : ℕ) → k < m → status k ≡ GoesOn
+going_more status n m is before now k less = go (k == n) refl
+  where
+    go : (b : Bool) → (k == n) ≡ b → status k ≡ GoesOn
+    go true e = ap status (eqb-true k n e) ∙ now
+    go false e = before k (let other = eqb-false k n e in omega (arith, is, less, other))
+
+pub goes_on : (s : State) → is_over s ≡ false → status_of s ≡ GoesOn
+goes_on (Running focus stack e w) on = refl
+goes_on (Ended ending output input) on = absurd (let e : true ≡ false = on in cc)
+goes_on (Dead output input) on = absurd (let e : true ≡ false = on in cc)
+goes_on (Wrong output input) on = absurd (let e : true ≡ false = on in cc)
+
+pub stopped : (s : State) (P : Type 0) → is_over s ≡ true → status_of s ≡ GoesOn → P
+stopped (Running focus stack e w) P over going = absurd (let e : false ≡ true = over in cc)
+stopped (Ended ending output input) P over going = absurd (let e : HasEnded ending ≡ GoesOn = going in cc)
+stopped (Dead output input) P over going = absurd (let e : IsDead ≡ GoesOn = going in cc)
+stopped (Wrong output input) P over going = absurd (let e : IsWrong ≡ GoesOn = going in cc)

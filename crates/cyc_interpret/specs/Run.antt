@@ -1,12 +1,21 @@
 -- What a run is reported by. This project's own choice.
 use Rattle.std.specs.Prelude.{ℕ, zero, suc, ◌-◌, ◌||◌, Bool, true, false, if◌then◌else◌, max, List, [], ◌∷◌, Option, None, Some}
 use Rattle.cyc_words.specs.Ending.{Ending, Returned, Uncaught, Full}
-use Rattle.cyc_meaning.specs.State.{Entry, Caller, Main, Focus, Calling, Proceeding, Returning, Throwing, calls_in, Status, GoesOn, HasEnded, IsDead, IsWrong}
+use Rattle.cyc_meaning.specs.State.{Entry, Caller, Main, Focus, Calling, Proceeding, Returning, Throwing, calls_in, State, Running, Status, GoesOn, HasEnded, IsDead, IsWrong}
 use Rattle.cyc_types.specs.declared.typed.Callee.TheVariants as callees
 use Rattle.cyc_interpret.specs.declared.limits.Change.{Change}
 use Rattle.cyc_interpret.specs.declared.limits.Change.TheVariants as change
 use Rattle.cyc_interpret.specs.declared.entry.Over.{Over}
 use Rattle.cyc_interpret.specs.declared.entry.Over.TheVariants as over
+
+-- what is done next, and whether a run is over
+abbrev pub focus_by : State → Option Focus
+focus_by (Running focus stack e w) = Some focus
+focus_by s = None
+
+abbrev pub is_over : State → Bool
+is_over (Running focus stack e w) = false
+is_over s = true
 
 -- the end of a call, and of the call of `main`
 abbrev pub is_caller : Entry → Bool

@@ -1,15 +1,20 @@
 //! A source program, run step by step as the definition says.
 #![tactic(auto)]
 
-pub use entry::Over;
-pub use limits::{Counts, Limits};
+pub use course::Course;
+pub use entry::{Entry, Environment, Focus, Over, Phase, Progress, Slot};
+pub use limits::Limits;
 pub use machine::Machine;
+pub use objects::{Cell, Object, Owner, Region, Sort};
 pub use run::{Report, Stop, run_source};
+pub use value::{Operand, Part, Value, Write};
+pub use world::World;
 
 mod allocation;
 mod calls;
 mod cells;
 mod changes;
+mod course;
 mod entry;
 mod exceptions;
 mod found;

@@ -1,6 +1,6 @@
 //! A run with limits: pages of the store, and calls under way. Demand and depth are counted as it goes.
 
-ghost use Rattle.std.specs.Prelude.{◌≡◌, ◌≤◌, ℕ, IfOk, OnOk, if◌then◌else◌, false, true};
+ghost use Rattle.std.specs.Prelude.{◌≡◌, ◌≤◌, ◌<◌, ℕ, IfOk, OnOk, if◌then◌else◌, true};
 ghost use Rattle.cyc_words.specs.Ending.{Full as EndsFull};
 ghost use Rattle.cyc_types.specs.TypedTrees.{Program};
 ghost use Rattle.cyc_types.specs.TypedTreeView.{view_program};
@@ -9,7 +9,7 @@ ghost use Rattle.cyc_meaning.specs.State.{GoesOn, calls_in, demand, depth, statu
 ghost use Rattle.cyc_meaning.specs.Step.{step};
 ghost use Rattle.cyc_meaning.specs.Run.{is_within, limited_step, limited_steps};
 ghost use Rattle.cyc_interpret.specs.View.{view_entry, view_focus, stack_of, state_of};
-ghost use Rattle.cyc_interpret.specs.Run.{is_caller, is_main, ends_call, ends_main, change_of, calls_by, peak_of};
+ghost use Rattle.cyc_interpret.specs.Run.{is_over, is_caller, is_main, ends_call, ends_main, change_of, calls_by, peak_of};
 
 use crate::entry::{Entry, Focus, Over, Phase};
 use crate::machine::Machine;
@@ -88,7 +88,7 @@ impl<'a> Entry<'a> {
 impl<'a> Machine<'a> {
     /// Returns true if a run is over.
     pub(crate) fn is_over(&self) -> bool
-        ensures { result ≡ false → status_of (state_of self.now) ≡ GoesOn }
+        ensures { result ≡ is_over (state_of self.now) }
     {
         match &self.phase {
             Phase::Over { .. } => true,
@@ -236,6 +236,8 @@ impl<'a> Machine<'a> {
         requires within { is_within limits.pages limits.calls (state_of self.old) ≡ true }
         ensures state { IfOk result (λ counts. state_of self.new ≡ limited_steps (view_program program.now) limits.pages limits.calls counts.steps (state_of self.old)) }
         ensures budget { IfOk result (λ counts. counts.steps ≤ budget) }
+        ensures before { IfOk result (λ counts. (n : ℕ) → n < counts.steps → status_of (limited_steps (view_program program.now) limits.pages limits.calls n (state_of self.old)) ≡ GoesOn) }
+        ensures spent { IfOk result (λ counts. status_of (state_of self.new) ≡ GoesOn → counts.steps ≡ budget) }
         ensures pages { IfOk result (λ counts. counts.pages ≡ peak_of (λ (n : ℕ). demand (limited_steps (view_program program.now) limits.pages limits.calls n (state_of self.old))) counts.steps) }
         ensures calls { IfOk result (λ counts. counts.calls ≡ peak_of (λ (n : ℕ). depth (limited_steps (view_program program.now) limits.pages limits.calls n (state_of self.old))) counts.steps) }
     {
@@ -243,15 +245,15 @@ impl<'a> Machine<'a> {
         let mut pages = self.demand();
         let mut most = calls;
         for steps in 0..budget {
-            if self.world.made > limits.made {
-                return Err(AllocError);
-            }
             if self.is_over() {
                 return Ok(Counts {
                     steps,
                     pages,
                     calls: most,
                 });
+            }
+            if self.world.made > limits.made {
+                return Err(AllocError);
             }
             current = self.limited_step(program, limits, current)?;
             pages = pages.max(self.demand());

@@ -1,12 +1,14 @@
 //! A whole run, with devices.
 
-ghost use Rattle.std.specs.Prelude.{◌≡◌, ◌≤◌, [], IfOk, OnOk, length};
+ghost use Rattle.std.specs.Prelude.{◌≡◌, ◌≢◌, ℕ, List, [], Err, IfOk, OnOk, OnErr, length};
 ghost use Rattle.std.specs.Io.KnownBytes.{Consumes};
 ghost use Rattle.cyc_types.specs.TypedTreeView.{view_program};
 ghost use Rattle.cyc_meaning.specs.State.{status_of, output_of, input_of};
+ghost use Rattle.cyc_soundness.specs.Sound.{IsSound};
 ghost use Rattle.cyc_interpret.specs.View.{state_of};
 ghost use Rattle.cyc_interpret.specs.Run.{status_by};
-ghost use Rattle.cyc_interpret.specs.Reported.{Leaves, RunsOn, RunsAs, NeverFails, EndsWell};
+ghost use Rattle.cyc_interpret.specs.declared.run.Stop.TheVariants as stops;
+ghost use Rattle.cyc_interpret.specs.Reported.{Leaves, RunsOn, RunsAs, EndsWell};
 
 use crate::entry::{Over, Phase};
 use crate::limits::Limits;
@@ -20,6 +22,7 @@ use std::alloc::{AllocError, Global};
 pub struct Report {
     /// Nothing where the run is under way, since its budget of steps is used up.
     pub end: Option<Over>,
+    /// How many steps it took: none is counted after the end.
     pub steps: u64,
     /// How many bytes of the input are not read.
     pub left: usize,
@@ -31,6 +34,7 @@ pub struct Report {
 /// Why there is no report.
 #[derive(Clone, Copy)]
 pub enum Stop {
+    /// Memory ran out, or the program made more than it may.
     NoMemory,
     /// The input could not be read.
     Input,
@@ -38,16 +42,12 @@ pub enum Stop {
     Output,
 }
 
-impl From<AllocError> for Stop {
-    fn from(_error: AllocError) -> Stop {
-        Stop::NoMemory
-    }
-}
-
 /// All bytes that a device still gives: where it reports its bytes, none is left.
 fn read_all<R: ByteIn>(alloc: Global, reader: &mut R) -> Result<Vec<u8>, Stop>
     ensures bytes { IfOk result (λ input. Consumes (R.remaining reader.old) (R.remaining reader.new) input.items) }
     ensures ends { OnOk result (Leaves (R.remaining reader.old) (R.remaining reader.new) []) }
+    ensures some { OnErr result ((read : List ℕ) × Consumes (R.remaining reader.old) (R.remaining reader.new) read) }
+    ensures stop { result ≢ Err stops.Output }
 {
     let mut input = Vec::new(alloc);
     for _ in 0..u64::MAX {
@@ -66,7 +66,7 @@ fn read_all<R: ByteIn>(alloc: Global, reader: &mut R) -> Result<Vec<u8>, Stop>
 
 impl<'a> Machine<'a> {
     /// What the run came to, or nothing where it is under way.
-    fn end(&self) -> Option<Over>
+    pub(crate) fn end(&self) -> Option<Over>
         ensures { status_of (state_of self.now) ≡ status_by result }
     {
         match &self.phase {
@@ -104,9 +104,7 @@ fn run_on(
     budget: u64,
     input: Vec<u8>,
 ) -> Result<(Report, Vec<u8>), AllocError>
-    ensures run { IfOk result (λ both. RunsOn (view_program tree.now) limits.pages limits.calls input.items both.1.items both.0) }
-    ensures budget { IfOk result (λ both. both.0.steps ≤ budget) }
-    ensures ends { NeverFails (view_program tree.now) → IfOk result (λ both. EndsWell both.0.end) }
+    ensures { IfOk result (λ both. RunsOn (view_program tree.now) limits.pages limits.calls budget input.items both.1.items both.0) }
 {
     let mut machine = Machine::start(alloc, tree, input)?;
     let calls = machine.depth(1);
@@ -124,8 +122,8 @@ fn run_on(
 /// Runs a program by the definition, step by step: the input is read whole, and what was printed is written at the end.
 ///
 /// The report tells the end, if the run came to one within its budget of steps, how many steps it took, how many bytes of the input are not
-/// read, and the greatest demand and depth. It stops where memory runs out or a device fails. A program that no input makes dead or wrong is
-/// never reported as such.
+/// read, and the greatest demand and depth. It stops where memory runs out, where the program makes more than `limits.made`, or where a
+/// device fails. A sound program, as every program is that is accepted, is never reported dead or wrong.
 pub fn run_source<R: ByteIn, W: ByteOut>(
     alloc: Global,
     tree: &TypedTree,
@@ -134,14 +132,17 @@ pub fn run_source<R: ByteIn, W: ByteOut>(
     reader: &mut R,
     writer: &mut W,
 ) -> Result<Report, Stop>
-    ensures run { IfOk result (λ report. RunsAs (view_program tree.now) limits.pages limits.calls report (R.remaining reader.old) (R.remaining reader.new) (W.written writer.old) (W.written writer.new)) }
-    ensures budget { IfOk result (λ report. report.steps ≤ budget) }
-    ensures ends { NeverFails (view_program tree.now) → IfOk result (λ report. EndsWell report.end) }
+    ensures run { RunsAs (view_program tree.now) limits.pages limits.calls budget
+        (record { remaining = R.remaining reader.old; written = W.written writer.old })
+        (record { remaining = R.remaining reader.new; written = W.written writer.new }) result }
+    ensures ends { IsSound (view_program tree.now) → IfOk result (λ report. EndsWell report.end) }
 {
     let input = read_all(alloc, reader)?;
-    let (report, output) = run_on(alloc, tree, limits, budget, input)?;
-    match writer.put_all(&output) {
-        Err(_failed) => Err(Stop::Output),
-        Ok(()) => Ok(report),
+    match run_on(alloc, tree, limits, budget, input) {
+        Err(_error) => Err(Stop::NoMemory),
+        Ok((report, output)) => match writer.put_all(&output) {
+            Err(_failed) => Err(Stop::Output),
+            Ok(()) => Ok(report),
+        },
     }
 }
