@@ -190,3 +190,7 @@ stopped (Running focus stack e w) P over going = absurd (let e : false ≡ true 
 stopped (Ended ending output input) P over going = absurd (let e : HasEnded ending ≡ GoesOn = going in cc)
 stopped (Dead output input) P over going = absurd (let e : IsDead ≡ GoesOn = going in cc)
 stopped (Wrong output input) P over going = absurd (let e : IsWrong ≡ GoesOn = going in cc)
+
+pub peak_next : (value : ℕ → ℕ) (n most now result : ℕ) → most ≡ peak_of value n → now ≡ value (n + 1) → result ≡ max most now → result ≡ peak_of value (n + 1)
+peak_next value n most now result before is greatest =
+    greatest ∙ (ap (λ (k : ℕ). max k now) before ∙ (ap (λ (k : ℕ). max (peak_of value n) k) is ∙ sym (peak_more value n (n + 1) refl)))

@@ -4,8 +4,8 @@ use Rattle.cyc_interpret.specs.View.{state_of}
 use Rattle.cyc_interpret.proofs.Starts.{reported}
 use Rattle.cyc_interpret.proofs.run.run_on.Goals as goal
 
-pub returns-clause : goal.returns-clause
-returns-clause c =
+pub returns : goal.returns
+returns c =
     let report : Report = record {
       end = c.end.result;
       steps = c.in_ok-counts.counts.steps;
