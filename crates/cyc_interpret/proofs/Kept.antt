@@ -6,7 +6,7 @@ use Rattle.cyc_meaning.specs.Parts.{dead, wrong}
 use Rattle.cyc_meaning.specs.Step.{tells}
 use Rattle.cyc_interpret.specs.declared.found.Access.{Access as AccessCode}
 use Rattle.cyc_interpret.specs.declared.found.Access.TheVariants as access
-use Rattle.cyc_interpret.specs.Found.{IsAccess, IsCell}
+use Rattle.cyc_interpret.specs.inside.Found.{IsAccess, IsCell}
 
 module _ (w : World) (object : ℕ) where
   pub accessed : (offset : ℕ) (code : AccessCode) (x : Object) → slice_get w.objects object ≡ Some x → is_live w x.owner ≡ true → IsCell code (located x (slice_get x.cells offset)) x → IsAccess w object code (cell_at w object offset)

@@ -16,7 +16,8 @@ use Rattle.cyc_meaning.proofs.RunLaws.{step_prints, step_reads, step_calls}
 use Rattle.cyc_interpret.specs.declared.entry.Entry.{Entry as EntryCode}
 use Rattle.cyc_interpret.specs.View.{view_entry, view_stack}
 use Rattle.cyc_interpret.specs.declared.limits.Change.TheVariants as change
-use Rattle.cyc_interpret.specs.Run.{is_over, ends_call, ends_main, change_of, calls_by, peak_of}
+use Rattle.cyc_interpret.specs.Run.{is_over, peak_of}
+use Rattle.cyc_interpret.specs.inside.Depth.{ends_call, ends_main, change_of, calls_by}
 
 -- ---- limits
 

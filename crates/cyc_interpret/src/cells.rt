@@ -9,7 +9,7 @@ ghost use Rattle.cyc_meaning.specs.Places.{loaded_at};
 ghost use Rattle.cyc_meaning.specs.Regions.{closing_lexical};
 ghost use Rattle.cyc_interpret.specs.WorldView.{view_operand, view_value};
 ghost use Rattle.cyc_interpret.specs.View.{view_environment, flat, stack_of, environment_of, world_of, state_of};
-ghost use Rattle.cyc_interpret.specs.Found.{after};
+ghost use Rattle.cyc_interpret.specs.inside.Found.{after};
 
 use crate::entry::{Entry, Environment, Focus};
 use crate::found::Access;

@@ -7,7 +7,7 @@ ghost use Rattle.cyc_meaning.specs.Objects.{made_in, made_unique, created, freed
 ghost use Rattle.cyc_meaning.specs.inside.Effects.{pages_in};
 ghost use Rattle.cyc_interpret.specs.WorldView.{view_value, view_sort, view_region, view_owner, view_cell};
 ghost use Rattle.cyc_interpret.specs.View.{view_world};
-ghost use Rattle.cyc_interpret.specs.Found.{IsCreated};
+ghost use Rattle.cyc_interpret.specs.inside.Found.{IsCreated};
 
 use crate::found::Reached;
 use crate::objects::{Cell, Object, Owner, Region, Sort};

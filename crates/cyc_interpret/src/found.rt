@@ -11,7 +11,7 @@ ghost use Rattle.cyc_meaning.specs.Places.{member_of};
 ghost use Rattle.cyc_meaning.specs.Regions.{is_dynamic};
 ghost use Rattle.cyc_interpret.specs.WorldView.{view_value, view_owner, view_cell, view_object, view_reach};
 ghost use Rattle.cyc_interpret.specs.View.{view_world};
-ghost use Rattle.cyc_interpret.specs.Found.{IsAccess, IsCell, IsReached, view_compared};
+ghost use Rattle.cyc_interpret.specs.inside.Found.{IsAccess, IsCell, IsReached, view_compared};
 
 use crate::objects::{Cell, Object, Owner, Sort};
 use crate::operators::{is_kind, kind_of};

@@ -9,7 +9,8 @@ ghost use Rattle.cyc_meaning.specs.State.{GoesOn, calls_in, demand, depth, statu
 ghost use Rattle.cyc_meaning.specs.Step.{step};
 ghost use Rattle.cyc_meaning.specs.Run.{is_within, limited_step, limited_steps};
 ghost use Rattle.cyc_interpret.specs.View.{view_entry, view_focus, stack_of, state_of};
-ghost use Rattle.cyc_interpret.specs.Run.{is_over, is_caller, is_main, ends_call, ends_main, change_of, calls_by, peak_of};
+ghost use Rattle.cyc_interpret.specs.Run.{is_over, peak_of};
+ghost use Rattle.cyc_interpret.specs.inside.Depth.{is_caller, is_main, ends_call, ends_main, change_of, calls_by};
 
 use crate::entry::{Entry, Focus, Over, Phase};
 use crate::machine::Machine;
