@@ -1,18 +1,17 @@
 -- Regions and objects that are changed, and what is seen of the change.
-use Rattle.std.proofs.Common.{rules, ◌≡◌, refl, ap, sym, ◌∙◌, ℕ, zero, suc, ◌+◌, ◌-◌, ◌<◌, ◌≤◌, Bool, true, false, Option, Some, None, option_map, List, [], ◌∷◌, ◌++◌, map, length, slice_get, set, get_or, if◌then◌else◌, arith}
-use Rattle.std.specs.Prelude.{◌==◌, nat_le, max}
-use Rattle.std.proofs.lemmas.List.{map-set, map-append, length-map, get_or-set_same, get_or-set_other, set-get_or}
+use Rattle.std.proofs.Common.{rules, ◌≡◌, refl, ap, sym, ◌∙◌, ℕ, zero, suc, ◌+◌, ◌-◌, ◌<◌, ◌≤◌, Bool, true, false, Option, Some, None, option_map, List, [], ◌∷◌, ◌++◌, map, length, slice_get, set, get_or, arith}
+use Rattle.std.specs.Prelude.{◌==◌, max}
+use Rattle.std.proofs.lemmas.List.{map-set, map-append, length-map, get_or-set_same, get_or-set_other}
 use Rattle.std.proofs.lemmas.Bool.{eqb-true, eqb-false, eq-eqb, ne_eqb}
 use Rattle.std.proofs.lemmas.Option.{slice_get-map, slice_get_read, get_or_from_slice_get}
 use Rattle.std.specs.Vec.{with_item}
-use Rattle.cyc_words.specs.Demand.{class_of, pages_for, demand_of, pages_from, region_pages}
+use Rattle.cyc_words.specs.Demand.{class_of, pages_for}
 use Rattle.cyc_words.proofs.Items.{map-set as map_set_same}
 use Rattle.cyc_types.specs.declared.typed.Kind.{Kind}
 use Rattle.cyc_meaning.specs.Allocation.{blanks}
-use Rattle.cyc_meaning.specs.Values.{Cell, Value, blank, block_size, kinds_of, words_for, bytes_from}
-use Rattle.cyc_meaning.specs.State.{Sort, Region, Owner, InRegion, Unique, Object, World, Located, Access, Found, Closed, Missing, cell_at, new_region, counted, closed, written, region_at, found_region, has_pages}
+use Rattle.cyc_meaning.specs.Values.{Cell, blank, block_size, kinds_of, words_for, bytes_from}
+use Rattle.cyc_meaning.specs.State.{Region, Owner, InRegion, Unique, Object, Located}
 use Rattle.cyc_meaning.specs.Objects.{live_in, class_of_cells, raised}
-use Rattle.cyc_meaning.proofs.WorldLaws.{cell_found}
 use Rattle.cyc_interpret.specs.declared.value.Value.{Value as ValueCode}
 use Rattle.cyc_interpret.specs.declared.objects.Region.{Region as RegionCode}
 use Rattle.cyc_interpret.specs.declared.objects.Cell.{Cell as CellCode}

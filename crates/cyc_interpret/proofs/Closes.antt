@@ -1,9 +1,9 @@
 -- Regions that are closed or opened by a key, and cells that are written.
-use Rattle.std.proofs.Common.{rules, ◌≡◌, refl, ap, sym, ◌∙◌, ℕ, Bool, true, false, Option, Some, None, option_map, List, ◌∷◌, slice_get}
+use Rattle.std.proofs.Common.{◌≡◌, refl, ap, ℕ, true, false, Option, Some, None, option_map, List, ◌∷◌, slice_get}
 use Rattle.cyc_types.specs.declared.typed.Kind.TheVariants as kinds
 use Rattle.cyc_types.specs.TypedTrees.{Items}
 use Rattle.cyc_meaning.specs.Values.{Operand, Handle, is_kind}
-use Rattle.cyc_meaning.specs.State.{Region, Owner, Object, World, Environment, Entry, EndLoan, Focus, Proceeding, Naming, State, Running, Located, Found, Closed, Missing, found_region, region_at, cell_at, closed, written}
+use Rattle.cyc_meaning.specs.State.{Region, Owner, Object, World, Environment, Entry, EndLoan, Focus, Proceeding, Naming, Running, Located, Found, found_region, region_at, cell_at, closed, written}
 use Rattle.cyc_meaning.specs.Parts.{stored, closing, wrong}
 use Rattle.cyc_meaning.specs.Regions.{is_dynamic, closing_lexical, opened_by, closes_dynamic, frees_in_region, frees_owned, frees_object}
 

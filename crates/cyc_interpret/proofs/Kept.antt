@@ -1,5 +1,5 @@
 -- What is looked up is what the definition finds.
-use Rattle.std.proofs.Common.{rules, ◌≡◌, refl, ap, sym, ◌∙◌, ℕ, Bool, true, false, Option, Some, None, option_map, List, slice_get}
+use Rattle.std.proofs.Common.{◌≡◌, refl, ap, ◌∙◌, ℕ, Bool, true, false, Option, Some, None, option_map, List, slice_get}
 use Rattle.cyc_meaning.specs.State.{World, Owner, Object, Entry, Environment, is_live, located, cell_at, Found, Closed, Missing}
 use Rattle.cyc_meaning.specs.Objects.{found_object}
 use Rattle.cyc_meaning.specs.Parts.{dead, wrong}

@@ -1,5 +1,5 @@
 -- A step with limits: what is seen of it, and how many calls are under way after it.
-use Rattle.std.proofs.Common.{◌≡◌, ℕ, zero, suc, ◌+◌, ◌-◌, ◌≤◌, ◌<◌, Bool, true, false, List, [], ◌∷◌, ◌++◌, map, reverse, take, length, drop, Option, Some, None, option_map, refl, ap, sym, ◌∙◌, arith, append-nil}
+use Rattle.std.proofs.Common.{◌≡◌, ℕ, zero, suc, ◌+◌, ◌-◌, ◌≤◌, ◌<◌, Bool, true, false, List, [], ◌∷◌, ◌++◌, map, reverse, take, length, drop, Option, Some, refl, ap, sym, ◌∙◌, arith, append-nil}
 use Rattle.std.specs.Prelude.{◌==◌, ◌&&◌, nat_le, max, if◌then◌else◌, slice_get}
 use Rattle.std.proofs.lemmas.Bool.{eqb-true, eqb-false, le-leb, and_from}
 use Rattle.std.proofs.lemmas.List.{map-append, reverse-append}
@@ -8,10 +8,10 @@ use Rattle.cyc_types.specs.declared.typed.Callee.TheVariants as callees
 use Rattle.cyc_types.specs.TypedTrees.{Program}
 use Rattle.cyc_meaning.specs.Values.{Value, Int, Operand}
 use Rattle.cyc_meaning.specs.State.{World, Environment, Entry, Caller, Main, Focus, Evaluating, Locating, Given, GivenPlace, Executing, Proceeding, Calling, Entering, Binding, Naming, Writing, Beginning, Repeating, Swapping, Breaking, Continuing, Returning, Throwing, Catching}
-use Rattle.cyc_meaning.specs.State.{State, Running, Ended, Dead, Wrong, Status, GoesOn, HasEnded, IsDead, IsWrong, status_of, output_of, input_of, demand, depth, calls_in}
+use Rattle.cyc_meaning.specs.State.{State, Running, Ended, Dead, Wrong, Status, GoesOn, HasEnded, IsDead, IsWrong, status_of, output_of, input_of, depth, calls_in}
 use Rattle.cyc_meaning.specs.inside.Effects.{printed_by, read_by, calls_after}
 use Rattle.cyc_meaning.specs.Step.{prints, reads, values_of, step}
-use Rattle.cyc_meaning.specs.Run.{is_within, limited, limited_step, limited_steps}
+use Rattle.cyc_meaning.specs.Run.{is_within, limited_step, limited_steps}
 use Rattle.cyc_meaning.proofs.RunLaws.{step_prints, step_reads, step_calls}
 use Rattle.cyc_interpret.specs.declared.entry.Entry.{Entry as EntryCode}
 use Rattle.cyc_interpret.specs.View.{view_entry, view_stack}

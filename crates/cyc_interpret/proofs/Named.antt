@@ -1,5 +1,5 @@
 -- A local that is named, and a counter that is set.
-use Rattle.std.proofs.Common.{◌≡◌, ap, ℕ, ◌==◌, Option, Some, List, slice_get, if◌then◌else◌}
+use Rattle.std.proofs.Common.{◌≡◌, ap, ℕ, ◌==◌, Option, Some, slice_get, if◌then◌else◌}
 use mathlib.Core.Path.{fun_ext}
 use Rattle.std.specs.declared.vec.Vec.{Vec}
 use Rattle.std.specs.declared.alloc.Global.{Global as Heap}

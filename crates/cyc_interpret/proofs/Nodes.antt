@@ -25,7 +25,7 @@ use Rattle.cyc_types.specs.Types as types
 use Rattle.cyc_types.specs.TypeView.{view_ty, view_value_type}
 use Rattle.cyc_types.specs.TypedTreeView.{view_expression, view_statement, view_initial, arguments_of, operations_of, items_of, clauses_of, default_of}
 use Rattle.cyc_types.proofs.TypedTreeViewLemmas.{view_typed_call, view_typed_binary, view_block, view_typed_fields, view_typed_try}
-use Rattle.cyc_meaning.specs.State.{Entry, Environment, World, Owner, State, Running, Evaluating, Executing, Proceeding, Needs, Chain, Rest, Handler, opened}
+use Rattle.cyc_meaning.specs.State.{Entry, Environment, World, Owner, Running, Evaluating, Executing, Proceeding, Needs, Chain, Rest, Handler, opened}
 use Rattle.cyc_meaning.specs.Parts.{inside, region_end, target_of_value, target_by}
 use Rattle.cyc_meaning.specs.Allocation.{makes, makes_fields}
 use Rattle.cyc_meaning.specs.Step.{step_evaluating, step_executing, passes}

@@ -1,5 +1,5 @@
 -- What is seen of a machine's state, whether it is over or not.
-use Rattle.std.proofs.Common.{◌≡◌, ℕ, refl, List}
+use Rattle.std.proofs.Common.{◌≡◌, refl, List}
 use Rattle.cyc_types.specs.TypedTrees.{Program}
 use Rattle.cyc_meaning.specs.State.{World, Environment, Entry, output_of, input_of, demand, depth}
 use Rattle.cyc_meaning.specs.Step.{step}

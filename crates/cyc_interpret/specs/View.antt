@@ -1,14 +1,14 @@
 -- The view of the code's states: those that the definition speaks of. This project's own choice.
-use Rattle.std.specs.Prelude.{ℕ, List, [], ◌∷◌, ◌++◌, map, reverse, drop, Option, None, Some, option_map, slice_get}
+use Rattle.std.specs.Prelude.{ℕ, List, [], ◌∷◌, map, reverse, drop, Option, None, Some, option_map, slice_get}
 use Rattle.cyc_words.specs.Ending.{Returned, Uncaught, Full}
 use Rattle.cyc_types.specs.declared.typed.Kind.TheVariants as kinds
 use Rattle.cyc_types.specs.TypeView.{view_ty}
 use Rattle.cyc_types.specs.TypedTreeView.{view_expression, view_dereference, view_initial, view_side, view_converted, view_statement, view_function, arguments_of, operations_of, items_of, clauses_of, default_of}
-use Rattle.cyc_meaning.specs.Values.{Value, Int, Null, Thin, Fat, Handle, Key, Operand, Cell, kind_of}
+use Rattle.cyc_meaning.specs.Values.{Thin, kind_of}
 use Rattle.cyc_meaning.specs.Parts.{target_by}
 use Rattle.cyc_meaning.specs.Allocation.{writes_from}
-use Rattle.cyc_meaning.specs.State.{World, Environment, Awaiting, ConvertTo, Operate, Chain, Apply, ApplyPointer, Decide, Store, StoreCell, Pass, Follow, FollowMember, Index, Advance, CountElements, FreeObject, CloseByKey, PlaceBy, BesideHandle}
-use Rattle.cyc_meaning.specs.State.{MakePlain, MakeFields, MakeArray, FillElement, Initialise, Choose, Test, Return, ThrowWith, OpenBy, AliasOf, AwaitingPlace, LoadFrom, TakeAddress, StoreTo, SwapLeft, SwapRight}
+use Rattle.cyc_meaning.specs.State.{World, Environment, ConvertTo, Operate, Chain, Apply, ApplyPointer, Decide, Store, StoreCell, Pass, Follow, FollowMember, Index, Advance, CountElements, FreeObject, CloseByKey, PlaceBy, BesideHandle}
+use Rattle.cyc_meaning.specs.State.{MakePlain, MakeFields, MakeArray, FillElement, Initialise, Choose, Test, Return, ThrowWith, OpenBy, AliasOf, LoadFrom, TakeAddress, StoreTo, SwapLeft, SwapRight}
 use Rattle.cyc_meaning.specs.State.{Entry, Needs, NeedsPlace, Discard, Rest, Join, Loop, CloseRegion, CloseLexical, EndLoan, Handler, Caller, Main}
 use Rattle.cyc_meaning.specs.State.{Focus, Evaluating, Locating, Given, GivenPlace, Executing, Proceeding, Calling, Entering, Binding, Naming, Writing, Beginning, Repeating, Swapping, Breaking, Continuing, Returning, Throwing, Catching}
 use Rattle.cyc_meaning.specs.State.{State, Running, Ended, Dead, Wrong}

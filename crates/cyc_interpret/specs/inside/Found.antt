@@ -1,6 +1,5 @@
 -- What the code's accesses find. This project's own choice.
 use Rattle.std.specs.Prelude.{◌≡◌, ℕ, Bool, true, false, Some, slice_get}
-use Rattle.cyc_meaning.specs.Values.{Cell}
 use Rattle.cyc_meaning.specs.State.{Object, World, Located, Access, Found, Closed, Missing, Focus, State, Running}
 use Rattle.cyc_interpret.specs.declared.found.Access.{Access as AccessCode}
 use Rattle.cyc_interpret.specs.declared.found.Access.TheVariants as access

@@ -1,4 +1,4 @@
-use Rattle.std.proofs.Common.{◌≡◌, ◌+◌, ◌++◌, ◌∷◌, [], ◌∙◌, List, None, map, ap, sym, refl}
+use Rattle.std.proofs.Common.{◌+◌, ◌++◌, ◌∷◌, [], ◌∙◌, List, None, map, ap, sym, refl}
 use Rattle.std.proofs.lemmas.List.{map-append}
 use Rattle.cyc_meaning.specs.Values.{Cell, blank}
 use Rattle.cyc_interpret.specs.declared.objects.Cell.{Cell as CellCode}

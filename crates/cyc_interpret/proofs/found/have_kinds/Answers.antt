@@ -1,4 +1,4 @@
-use Rattle.std.proofs.Common.{rules, ◌≡◌, ◌<◌, ◌≤◌, ◌∙◌, List, length, sym, subst}
+use Rattle.std.proofs.Common.{rules, ◌<◌, ◌≤◌, ◌∙◌, List, length, sym, subst}
 use Rattle.cyc_types.specs.declared.ty.Ty.{Ty}
 use Rattle.cyc_interpret.proofs.FieldKinds.{short}
 use Rattle.cyc_interpret.proofs.found.have_kinds.Goals as goal

@@ -1,7 +1,6 @@
 use Rattle.std.proofs.Common.{[], ◌∷◌}
 use Rattle.std.specs.Io.KnownBytes.{Consumes, Keeps, IsAtEnd}
 use Rattle.std.proofs.KnownBytes.{Consumes-trans}
-use Rattle.cyc_words.specs.Device.{Gives}
 use Rattle.cyc_interpret.proofs.Starts.{end_seen}
 use Rattle.cyc_interpret.proofs.run.read_all.Goals as goal
 

@@ -1,4 +1,3 @@
-use Rattle.std.proofs.Common.{sym, ◌∙◌}
 use Rattle.cyc_interpret.specs.WorldView.{view_owner}
 use Rattle.cyc_interpret.specs.View.{stack_of, environment_of, world_of}
 use Rattle.cyc_interpret.proofs.Nodes.{makes_struct}

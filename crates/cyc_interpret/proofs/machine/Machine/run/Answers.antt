@@ -1,6 +1,6 @@
 use Rattle.std.proofs.Common.{ℕ, ◌+◌, refl, ap, sym, ◌∙◌}
 use Rattle.cyc_types.specs.TypedTreeView.{view_program}
-use Rattle.cyc_meaning.specs.State.{State, demand, depth, status_of}
+use Rattle.cyc_meaning.specs.State.{demand, depth, status_of}
 use Rattle.cyc_meaning.specs.Run.{limited_step, limited_steps}
 use Rattle.cyc_interpret.specs.View.{state_of}
 use Rattle.cyc_interpret.proofs.LimitLaws.{steps_more, going_more, goes_on, peak_next}

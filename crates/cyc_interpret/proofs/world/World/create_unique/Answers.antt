@@ -1,4 +1,4 @@
-use Rattle.std.proofs.Common.{rules, ◌≡◌, ℕ, ◌<◌, ◌≤◌, ◌+◌, refl, ap, sym, ◌∙◌, true, List, [], ◌∷◌, ◌++◌, map, length, set, get_or, max, arith}
+use Rattle.std.proofs.Common.{rules, ◌≡◌, ℕ, ◌+◌, refl, ap, sym, ◌∙◌, true, List, [], ◌∷◌, ◌++◌, map, length, set, get_or, max, arith}
 use Rattle.cyc_words.specs.Demand.{class_of}
 use Rattle.cyc_meaning.specs.Values.{block_size}
 use Rattle.cyc_meaning.specs.State.{Unique, Object, counted}

@@ -1,4 +1,4 @@
-use Rattle.std.proofs.Common.{rules, ◌≡◌, ℕ, ◌<◌, ◌≤◌, refl, ap, ◌∙◌, true, false, List, map, length, arith}
+use Rattle.std.proofs.Common.{rules, ◌≡◌, ℕ, refl, ap, ◌∙◌, true, false, List, map, length, arith}
 use Rattle.cyc_words.specs.Demand.{class_of}
 use Rattle.cyc_meaning.specs.Values.{block_size}
 use Rattle.cyc_meaning.specs.State.{Object, Unique}
