@@ -20,11 +20,11 @@ use Rattle.cyc_interpret.specs.WorldView.{view_value, view_region, view_owner, v
 use Rattle.cyc_interpret.proofs.LiveCounts.{one, counts_in, live-few, live-more, live-set, counts-same, counts-freed, counts-unique}
 
 -- what is read by a view is the view of what is read
-pub seen : {A B : Type 0} (v : A → B) (xs : List A) (i : ℕ) (a : A) (b : B) (f : Option A) → slice_get xs i ≡ f → slice_get (map v xs) i ≡ Some b → a ≡ get_or xs i a → b ≡ v a
-seen v xs i a b None e at is =
+pub seen_of_view : {A B : Type 0} (v : A → B) (xs : List A) (i : ℕ) (a : A) (b : B) (f : Option A) → slice_get xs i ≡ f → slice_get (map v xs) i ≡ Some b → a ≡ get_or xs i a → b ≡ v a
+seen_of_view v xs i a b None e at is =
     let no : None ≡ Some b = sym (slice_get-map v xs i ∙ ap (option_map v) e) ∙ at in
     search (rules, no)
-seen v xs i a b (Some y) e at is =
+seen_of_view v xs i a b (Some y) e at is =
     let same : a ≡ y = is ∙ get_or_from_slice_get xs i y a e in
     let there : Some b ≡ Some (v y) = sym at ∙ (slice_get-map v xs i ∙ ap (option_map v) e) in
     let equal : b ≡ v y = search (rules, there) in
@@ -34,7 +34,7 @@ seen v xs i a b (Some y) e at is =
 pub region_set : (rs : List RegionCode) (i : ℕ) (r : RegionCode) (s : Region) → slice_get (map view_region rs) i ≡ Some s → r ≡ get_or rs i r
     → (new : RegionCode) (change : Region → Region) → view_region new ≡ change (view_region r) → map view_region (set rs i new) ≡ set (map view_region rs) i (change s)
 region_set rs i r s at is new change changes =
-    let same : s ≡ view_region r = seen view_region rs i r s (slice_get rs i) refl at is in
+    let same : s ≡ view_region r = seen_of_view view_region rs i r s (slice_get rs i) refl at is in
     map-set view_region rs i new ∙ ap (set (map view_region rs) i) (changes ∙ ap change (sym same))
 
 -- the objects after a cell of one of them is written
@@ -45,9 +45,9 @@ module _ (xs : List ObjectCode) (i k : ℕ) (o : ObjectCode) (d : CellCode) (v :
   pub writes : (at : Located) → slice_get (map view_object xs) i ≡ Some at.object → slice_get at.object.cells k ≡ Some at.cell → o ≡ get_or xs i o → d ≡ get_or o.cells.items k d
       → map view_object (set xs i rewritten) ≡ set (map view_object xs) i (record at.object { cells = set at.object.cells k (record at.cell { content = Some (view_value v) }) })
   writes at there inner is here =
-      let object : at.object ≡ view_object o = seen view_object xs i o at.object (slice_get xs i) refl there is in
+      let object : at.object ≡ view_object o = seen_of_view view_object xs i o at.object (slice_get xs i) refl there is in
       let within : slice_get (map view_cell o.cells.items) k ≡ Some at.cell = rw object at inner in
-      let same : at.cell ≡ view_cell d = seen view_cell o.cells.items k d at.cell (slice_get o.cells.items k) refl within here in
+      let same : at.cell ≡ view_cell d = seen_of_view view_cell o.cells.items k d at.cell (slice_get o.cells.items k) refl within here in
       rw object (rw same (map-set view_object xs i rewritten ∙ ap (λ cells. set (map view_object xs) i (record (view_object o) { cells = cells })) (map-set view_cell o.cells.items k (record d { content = Some v }))))
 
   -- and how many unique ones are live
@@ -103,14 +103,14 @@ module _ (live : List ℕ) (eleven : length live ≡ 11) (xs : List ObjectCode) 
       here : live_in c (map view_object (xs ++ o ∷ [])) ≡ get_or live c 0 + 1
       here =
           let more = more_counts c xs o in
-          let seen : counts_in c (view_object o) ≡ 1 = ap (counts_in c) is ∙ counts_here in
-          omega (arith, more, seen, counts c small)
+          let told : counts_in c (view_object o) ≡ 1 = ap (counts_in c) is ∙ counts_here in
+          omega (arith, more, told, counts c small)
 
       others : (class : ℕ) → class < 11 → (class ≡ c → ⊥) → live_in class (map view_object (xs ++ o ∷ [])) ≡ get_or live class 0
       others class less other =
           let more = more_counts class xs o in
-          let seen : counts_in class (view_object o) ≡ 0 = ap (counts_in class) is ∙ counts_other class other in
-          omega (arith, more, seen, counts class less)
+          let told : counts_in class (view_object o) ≡ 0 = ap (counts_in class) is ∙ counts_other class other in
+          omega (arith, more, told, counts class less)
 
   pub freed_all_counts : (i : ℕ) (o new : ObjectCode) → slice_get (map view_object xs) i ≡ Some (record { owner = Unique true; cells = cells }) → view_object new ≡ record { owner = Unique false; cells = cells } → (class : ℕ) → class < 11
       → live_in class (map view_object (set xs i new)) ≡ get_or (set live c (get_or live c 0 - 1)) class 0
@@ -152,10 +152,10 @@ object_within (x ∷ xs) zero owner there = omega arith
 object_within (x ∷ xs) (suc i) owner there = omega (arith, object_within xs i owner there)
 
 -- the objects after one of them is given back
-pub frees : (xs : List ObjectCode) (i : ℕ) (o : ObjectCode) (x : Object) → slice_get (map view_object xs) i ≡ Some x → o ≡ get_or xs i o
+pub frees_viewed : (xs : List ObjectCode) (i : ℕ) (o : ObjectCode) (x : Object) → slice_get (map view_object xs) i ≡ Some x → o ≡ get_or xs i o
     → (new : ObjectCode) → view_object new ≡ record (view_object o) { owner = Unique false } → map view_object (set xs i new) ≡ set (map view_object xs) i (record x { owner = Unique false })
-frees xs i o x at is new gone =
-    let same : x ≡ view_object o = seen view_object xs i o x (slice_get xs i) refl at is in
+frees_viewed xs i o x at is new gone =
+    let same : x ≡ view_object o = seen_of_view view_object xs i o x (slice_get xs i) refl at is in
     map-set view_object xs i new ∙ ap (set (map view_object xs) i) (gone ∙ ap (λ (y : Object). record y { owner = Unique false }) (sym same))
 
 -- few objects of a class are live

@@ -54,9 +54,9 @@ module _ (w : World) (region : ℕ) (stack : List Entry) (e : Environment) (open
       rw found refl
 
 -- a cell that is found and written
-pub stores : (w new : World) (object offset : ℕ) (at : Located) (operand : Operand) (focus : Focus) (stack : List Entry) (e : Environment) → cell_at w object offset ≡ Found at → is_kind at.cell.kind operand.kind ≡ true → new ≡ written w object offset at operand.value
+pub stores_found : (w new : World) (object offset : ℕ) (at : Located) (operand : Operand) (focus : Focus) (stack : List Entry) (e : Environment) → cell_at w object offset ≡ Found at → is_kind at.cell.kind operand.kind ≡ true → new ≡ written w object offset at operand.value
     → Running focus stack e new ≡ stored (cell_at w object offset) object offset operand focus stack e w
-stores w new object offset at operand focus stack e found kind is = rw found (rw kind (ap (λ (x : World). Running focus stack e x) is))
+stores_found w new object offset at operand focus stack e found kind is = rw found (rw kind (ap (λ (x : World). Running focus stack e x) is))
 
 -- an object that is found is freed by its owner
 pub frees_by : (w : World) (object : ℕ) (owner : Owner) (found : Option Object) (stack : List Entry) (e : Environment) → option_map (λ (x : Object). x.owner) found ≡ Some owner

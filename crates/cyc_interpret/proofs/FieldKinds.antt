@@ -19,12 +19,12 @@ drop_past (x ∷ xs) zero past = absurd (omega (arith, past))
 drop_past (x ∷ xs) (suc i) past = drop_past xs i (omega (arith, past))
 
 -- a cell that no field is left for
-pub short : (cells : List CellCode) (types : List TyCode) (i : ℕ) → i < length cells → length types ≤ i → fit (drop i cells) (drop i types) ≡ false
-short [] types i within past = absurd (omega (arith, within))
-short (c ∷ cells) [] zero within past = refl
-short (c ∷ cells) [] (suc i) within past = ap (λ (ts : List TyCode). fit (drop i cells) ts) (sym (drop_past [] i (omega arith))) ∙ short cells [] i (omega (arith, within)) (omega arith)
-short (c ∷ cells) (t ∷ types) zero within past = absurd (omega (arith, past))
-short (c ∷ cells) (t ∷ types) (suc i) within past = short cells types i (omega (arith, within)) (omega (arith, past))
+pub short_kinds : (cells : List CellCode) (types : List TyCode) (i : ℕ) → i < length cells → length types ≤ i → fit (drop i cells) (drop i types) ≡ false
+short_kinds [] types i within past = absurd (omega (arith, within))
+short_kinds (c ∷ cells) [] zero within past = refl
+short_kinds (c ∷ cells) [] (suc i) within past = ap (λ (ts : List TyCode). fit (drop i cells) ts) (sym (drop_past [] i (omega arith))) ∙ short_kinds cells [] i (omega (arith, within)) (omega arith)
+short_kinds (c ∷ cells) (t ∷ types) zero within past = absurd (omega (arith, past))
+short_kinds (c ∷ cells) (t ∷ types) (suc i) within past = short_kinds cells types i (omega (arith, within)) (omega (arith, past))
 
 -- a cell that is a target, by its kind alone
 pub target_none : (kind : Kind) (offset : ℕ) (found : Option Cell) → None ≡ option_map (λ (c : Cell). c.kind) found → false ≡ is_target (Some kind) offset found

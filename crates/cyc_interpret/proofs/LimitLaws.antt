@@ -8,7 +8,7 @@ use Rattle.cyc_types.specs.declared.typed.Callee.TheVariants as callees
 use Rattle.cyc_types.specs.TypedTrees.{Program}
 use Rattle.cyc_meaning.specs.Values.{Value, Int, Operand}
 use Rattle.cyc_meaning.specs.State.{World, Environment, Entry, Caller, Main, Focus, Evaluating, Locating, Given, GivenPlace, Executing, Proceeding, Calling, Entering, Binding, Naming, Writing, Beginning, Repeating, Swapping, Breaking, Continuing, Returning, Throwing, Catching}
-use Rattle.cyc_meaning.specs.State.{State, Running, Ended, Dead, Wrong, Status, GoesOn, HasEnded, IsDead, IsWrong, status_of, output_of, input_of, depth, calls_in}
+use Rattle.cyc_meaning.specs.State.{State, Running, Ended, Dead, Wrong, Status, GoesOn, status_of, output_of, input_of, depth, calls_in}
 use Rattle.cyc_meaning.specs.inside.Effects.{printed_by, read_by, calls_after}
 use Rattle.cyc_meaning.specs.Step.{prints, reads, values_of, step}
 use Rattle.cyc_meaning.specs.Run.{is_within, limited_step, limited_steps}
@@ -21,18 +21,18 @@ use Rattle.cyc_interpret.specs.inside.Depth.{ends_call, ends_main, change_of, ca
 
 -- ---- limits
 
-pub over_within : (pages calls : ℕ) → (nat_le 0 pages && nat_le 0 calls) ≡ true
-over_within pages calls = and_from _ _ (le-leb 0 pages (omega arith)) (le-leb 0 calls (omega arith))
+pub over_is_within : (pages calls : ℕ) → (nat_le 0 pages && nat_le 0 calls) ≡ true
+over_is_within pages calls = and_from _ _ (le-leb 0 pages (omega arith)) (le-leb 0 calls (omega arith))
 
 -- what only prints or reads stays within the limits
 module _ (pages calls : ℕ) (focus : Focus) (stack : List Entry) (e : Environment) (w : World) (within : is_within pages calls (Running focus stack e w) ≡ true) where
   prints_within : (values : List Value) → is_within pages calls (prints values stack e w) ≡ true
   prints_within (Int word ∷ []) = within
-  prints_within values = over_within pages calls
+  prints_within values = over_is_within pages calls
 
   reads_within : (values : List Value) → is_within pages calls (reads values stack e w) ≡ true
   reads_within [] = within
-  reads_within (value ∷ values) = over_within pages calls
+  reads_within (value ∷ values) = over_is_within pages calls
 
 -- what is seen of a state
 abbrev pub SeenAlike : State → State → Type 0
@@ -121,11 +121,11 @@ returned value [] = refl
 returned value (Caller outer ∷ stack) = omega arith
 returned value (entry ∷ stack) = refl
 
-thrown : (stack : List Entry) (tag value : ℕ) → calls_after (Throwing tag value) stack ≡ calls_by change.Throws stack
-thrown [] tag value = refl
-thrown (Caller outer ∷ stack) tag value = omega arith
-thrown (Main ∷ stack) tag value = omega arith
-thrown (entry ∷ stack) tag value = refl
+thrown_calls : (stack : List Entry) (tag value : ℕ) → calls_after (Throwing tag value) stack ≡ calls_by change.Throws stack
+thrown_calls [] tag value = refl
+thrown_calls (Caller outer ∷ stack) tag value = omega arith
+thrown_calls (Main ∷ stack) tag value = omega arith
+thrown_calls (entry ∷ stack) tag value = refl
 
 pub calls_after_is : (focus : Focus) (stack : List Entry) → calls_after focus stack ≡ calls_by (change_of focus) stack
 calls_after_is (Calling callees.Putchar arguments) stack = refl
@@ -133,7 +133,7 @@ calls_after_is (Calling callees.Getchar arguments) stack = refl
 calls_after_is (Calling (callees.Function number) arguments) stack = refl
 calls_after_is Proceeding stack = proceeded stack
 calls_after_is (Returning value) stack = returned value stack
-calls_after_is (Throwing tag value) stack = thrown stack tag value
+calls_after_is (Throwing tag value) stack = thrown_calls stack tag value
 calls_after_is focus stack = refl
 
 pub calls_after_step : (program : Program) (focus : Focus) (stack : List Entry) (e : Environment) (w : World) → status_of (step program (Running focus stack e w)) ≡ GoesOn
@@ -180,17 +180,11 @@ going_more status n m is before now k less = go (k == n) refl
     go true e = ap status (eqb-true k n e) ∙ now
     go false e = before k (let other = eqb-false k n e in omega (arith, is, less, other))
 
-pub goes_on : (s : State) → is_over s ≡ false → status_of s ≡ GoesOn
-goes_on (Running focus stack e w) on = refl
-goes_on (Ended ending output input) on = absurd (let e : true ≡ false = on in cc)
-goes_on (Dead output input) on = absurd (let e : true ≡ false = on in cc)
-goes_on (Wrong output input) on = absurd (let e : true ≡ false = on in cc)
-
-pub stopped : (s : State) (P : Type 0) → is_over s ≡ true → status_of s ≡ GoesOn → P
-stopped (Running focus stack e w) P over going = absurd (let e : false ≡ true = over in cc)
-stopped (Ended ending output input) P over going = absurd (let e : HasEnded ending ≡ GoesOn = going in cc)
-stopped (Dead output input) P over going = absurd (let e : IsDead ≡ GoesOn = going in cc)
-stopped (Wrong output input) P over going = absurd (let e : IsWrong ≡ GoesOn = going in cc)
+pub goes_on_where_not_over : (s : State) → is_over s ≡ false → status_of s ≡ GoesOn
+goes_on_where_not_over (Running focus stack e w) on = refl
+goes_on_where_not_over (Ended ending output input) on = absurd (let e : true ≡ false = on in cc)
+goes_on_where_not_over (Dead output input) on = absurd (let e : true ≡ false = on in cc)
+goes_on_where_not_over (Wrong output input) on = absurd (let e : true ≡ false = on in cc)
 
 pub peak_next : (value : ℕ → ℕ) (n most now result : ℕ) → most ≡ peak_of value n → now ≡ value (n + 1) → result ≡ max most now → result ≡ peak_of value (n + 1)
 peak_next value n most now result before is greatest =

@@ -17,18 +17,18 @@ shifts : (b : Bool) (m n k : ℕ) → m ≡ n + k → (if b then suc m else m) �
 shifts true m n k e = omega (arith, e)
 shifts false m n k e = e
 
-alone : (b : Bool) → (if b then 1 else 0) ≡ 0 + one b
-alone true = omega arith
-alone false = omega arith
+counted_alone : (b : Bool) → (if b then 1 else 0) ≡ 0 + one b
+counted_alone true = omega arith
+counted_alone false = omega arith
 
 -- one object more
 pub live-more : (class : ℕ) (xs : List Object) (y : Object) → live_in class (xs ++ y ∷ []) ≡ live_in class xs + counts_in class y
-live-more class [] y = alone (is_live_in class y.owner y.cells)
+live-more class [] y = counted_alone (is_live_in class y.owner y.cells)
 live-more class (x ∷ xs) y = shifts (is_live_in class x.owner x.cells) (live_in class (xs ++ y ∷ [])) (live_in class xs) (counts_in class y) (live-more class xs y)
 
-keeps : (b : Bool) (m n j k : ℕ) → m + j ≡ n + k → (if b then suc m else m) + j ≡ (if b then suc n else n) + k
-keeps true m n j k e = omega (arith, e)
-keeps false m n j k e = e
+keeps_counts : (b : Bool) (m n j k : ℕ) → m + j ≡ n + k → (if b then suc m else m) + j ≡ (if b then suc n else n) + k
+keeps_counts true m n j k e = omega (arith, e)
+keeps_counts false m n j k e = e
 
 trades : (b c : Bool) (n : ℕ) → (if c then suc n else n) + one b ≡ (if b then suc n else n) + one c
 trades true true n = refl
@@ -44,7 +44,7 @@ live-set class (a ∷ xs) zero x y there =
     let same : a ≡ x = cc in
     trades (is_live_in class x.owner x.cells) (is_live_in class y.owner y.cells) (live_in class xs)
     ∙ ap (λ (z : Object). (if is_live_in class z.owner z.cells then suc (live_in class xs) else live_in class xs) + counts_in class y) (sym same)
-live-set class (a ∷ xs) (suc o) x y there = keeps (is_live_in class a.owner a.cells) (live_in class (set xs o y)) (live_in class xs) (counts_in class x) (counts_in class y) (live-set class xs o x y there)
+live-set class (a ∷ xs) (suc o) x y there = keeps_counts (is_live_in class a.owner a.cells) (live_in class (set xs o y)) (live_in class xs) (counts_in class x) (counts_in class y) (live-set class xs o x y there)
 
 few : (b : Bool) (m n : ℕ) → m ≤ n → (if b then suc m else m) ≤ suc n
 few true m n e = omega (arith, e)

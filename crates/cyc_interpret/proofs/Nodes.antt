@@ -30,9 +30,9 @@ use Rattle.cyc_meaning.specs.Parts.{inside, region_end, target_of_value, target_
 use Rattle.cyc_meaning.specs.Allocation.{makes, makes_fields}
 use Rattle.cyc_meaning.specs.Step.{step_evaluating, step_executing, passes}
 
-pub calls : (value : Expr) {w : _} (f : Callee) (v : Vec ConvertedCode Heap) (t : ValueTypeCode) → value ≡ expr.Call w f v t → (stack : List Entry) (e : Environment) (world : World)
+pub call_begins : (value : Expr) {w : _} (f : Callee) (v : Vec ConvertedCode Heap) (t : ValueTypeCode) → value ≡ expr.Call w f v t → (stack : List Entry) (e : Environment) (world : World)
     → step_evaluating (view_expression value) stack e world ≡ passes f [] (arguments_of v.items) stack e world
-calls value {w} f v t is stack e world =
+call_begins value {w} f v t is stack e world =
     ap (λ (x : Expr). step_evaluating (view_expression x) stack e world) is ∙ ap (λ (x : Expression). step_evaluating x stack e world) (view_typed_call w f v t)
 
 pub chains : (value : Expr) (b : Box Expr Heap) (v : Vec Operation Heap) (t : TyCode) → value ≡ expr.Binary b v t → (stack : List Entry) (e : Environment) (world : World)

@@ -90,17 +90,17 @@ counted-set (x ∷ rs) (suc n) r s classes there = omega (arith, demand_cons x (
 
 -- ---- classes
 
-demand_split : (rs : List (List ℕ)) (classes : List ℕ) → demand_of rs classes ≡ demand_of rs [] + total classes
-demand_split [] classes = omega arith
-demand_split (r ∷ rs) classes = omega (arith, demand_split rs classes)
+demand_parts : (rs : List (List ℕ)) (classes : List ℕ) → demand_of rs classes ≡ demand_of rs [] + total classes
+demand_parts [] classes = omega arith
+demand_parts (r ∷ rs) classes = omega (arith, demand_parts rs classes)
 
-total-set : (classes : List ℕ) (i v : ℕ) → i < length classes → total (set classes i v) + get_or classes i 0 ≡ total classes + v
-total-set [] i v less = absurd (omega (arith, less))
-total-set (c ∷ classes) zero v less = omega arith
-total-set (c ∷ classes) (suc i) v less = omega (arith, total-set classes i v (omega (arith, less)))
+total_where_set : (classes : List ℕ) (i v : ℕ) → i < length classes → total (set classes i v) + get_or classes i 0 ≡ total classes + v
+total_where_set [] i v less = absurd (omega (arith, less))
+total_where_set (c ∷ classes) zero v less = omega arith
+total_where_set (c ∷ classes) (suc i) v less = omega (arith, total_where_set classes i v (omega (arith, less)))
 
 pub classes-set : (rs : List (List ℕ)) (classes : List ℕ) (i v : ℕ) → i < length classes → demand_of rs (set classes i v) + get_or classes i 0 ≡ demand_of rs classes + v
-classes-set rs classes i v less = omega (arith, demand_split rs (set classes i v), demand_split rs classes, total-set classes i v less)
+classes-set rs classes i v less = omega (arith, demand_parts rs (set classes i v), demand_parts rs classes, total_where_set classes i v less)
 
 pub class_within : (rs : List (List ℕ)) (classes : List ℕ) (i : ℕ) → i < length classes → get_or classes i 0 ≤ demand_of rs classes
 class_within rs classes i less = omega (arith, classes-set rs classes i 0 less)

@@ -47,16 +47,16 @@ over_depth over.Full w = refl
 over_depth over.Dead w = refl
 over_depth over.Wrong w = refl
 
-pub over_calls : (program : Program) (end : Over) (w : World) → depth (step program (view_over end w)) ≡ 0
-over_calls program (over.Returned n) w = refl
-over_calls program (over.Uncaught tag n) w = refl
-over_calls program over.Full w = refl
-over_calls program over.Dead w = refl
-over_calls program over.Wrong w = refl
+pub over_calls_none : (program : Program) (end : Over) (w : World) → depth (step program (view_over end w)) ≡ 0
+over_calls_none program (over.Returned n) w = refl
+over_calls_none program (over.Uncaught tag n) w = refl
+over_calls_none program over.Full w = refl
+over_calls_none program over.Dead w = refl
+over_calls_none program over.Wrong w = refl
 
-pub over_stays : (program : Program) (end : Over) (w : World) → view_over end w ≡ step program (view_over end w)
-over_stays program (over.Returned n) w = refl
-over_stays program (over.Uncaught tag n) w = refl
-over_stays program over.Full w = refl
-over_stays program over.Dead w = refl
-over_stays program over.Wrong w = refl
+pub over_step_stays : (program : Program) (end : Over) (w : World) → view_over end w ≡ step program (view_over end w)
+over_step_stays program (over.Returned n) w = refl
+over_step_stays program (over.Uncaught tag n) w = refl
+over_step_stays program over.Full w = refl
+over_step_stays program over.Dead w = refl
+over_step_stays program over.Wrong w = refl

@@ -26,12 +26,12 @@ first_pages regions a b is heap globals =
     ∙ ap (λ (r : Region). demand_of (counted (new_region Heap ∷ r ∷ [])) (replicate 11 0)) globals)
 
 -- no global is a unique object
-no_unique : (class : ℕ) (gs : List GlobalVariable) → live_in class (map global_object gs) ≡ 0
-no_unique class [] = refl
-no_unique class (g ∷ gs) = no_unique class gs
+no_unique_global : (class : ℕ) (gs : List GlobalVariable) → live_in class (map global_object gs) ≡ 0
+no_unique_global class [] = refl
+no_unique_global class (g ∷ gs) = no_unique_global class gs
 
 pub first_counts : (objects : List ObjectCode) (gs : List GlobalVariable) → map view_object objects ≡ map global_object gs → (class : ℕ) → class < 11 → live_in class (map view_object objects) ≡ get_or (replicate 11 0) class 0
-first_counts objects gs is class less = ap (live_in class) is ∙ (no_unique class gs ∙ sym (get_or-replicate 11 class 0 0 less))
+first_counts objects gs is class less = ap (live_in class) is ∙ (no_unique_global class gs ∙ sym (get_or-replicate 11 class 0 0 less))
 
 -- what a report says of the state that a run came to
 module _ (p : Program) (pages calls budget : ℕ) (input output : List ℕ) (report : Report) (s t : State) where

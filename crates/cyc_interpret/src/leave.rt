@@ -285,7 +285,7 @@ impl<'a> Machine<'a> {
     }
 
     /// One step, without limits. A run that is over stays as it is.
-    #[tactic(auto, using(crate::proofs::Seen::over_stays))]
+    #[tactic(auto, using(crate::proofs::Seen::over_step_stays))]
     pub fn step(&mut self, program: &'a TypedTree) -> Result<(), AllocError>
         ensures { OnOk result (state_of self.new ≡ step (view_program program.now) (state_of self.old)) }
     {

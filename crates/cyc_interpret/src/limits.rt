@@ -143,7 +143,7 @@ impl<'a> Machine<'a> {
     }
 
     /// How many calls are under way after the next step, if it does not end the run.
-    #[tactic(auto, using(crate::proofs::LimitLaws::calls_after_step, crate::proofs::Seen::over_calls))]
+    #[tactic(auto, using(crate::proofs::LimitLaws::calls_after_step, crate::proofs::Seen::over_calls_none))]
     fn calls_after(&self, calls: u128) -> u128
         requires { depth (state_of self.now) ≡ calls }
         ensures { (program : Program) → status_of (step program (state_of self.now)) ≡ GoesOn → depth (step program (state_of self.now)) ≡ result }
@@ -182,7 +182,7 @@ impl<'a> Machine<'a> {
     }
 
     /// Ends a run that went past a limit. Returns how many calls are under way.
-    #[tactic(auto, using(crate::proofs::LimitLaws::over_within))]
+    #[tactic(auto, using(crate::proofs::LimitLaws::over_is_within))]
     fn keep_within(&mut self, limits: Limits, calls: u128) -> u128
         requires { status_of (state_of self.old) ≡ GoesOn → depth (state_of self.old) ≡ calls }
         ensures state { state_of self.new ≡ (if is_within limits.pages limits.calls (state_of self.old) then state_of self.old else meaning.Ended EndsFull (output_of (state_of self.old)) (input_of (state_of self.old))) }

@@ -5,7 +5,7 @@ use Rattle.cyc_meaning.specs.State.{Object, Unique}
 use Rattle.cyc_interpret.specs.declared.objects.Owner.TheVariants as owner
 use Rattle.cyc_interpret.specs.WorldView.{view_cell}
 use Rattle.cyc_interpret.specs.View.{view_world}
-use Rattle.cyc_interpret.proofs.Changed.{object_within, seen_unique, freed_some, freed_all_counts, frees}
+use Rattle.cyc_interpret.proofs.Changed.{object_within, seen_unique, freed_some, freed_all_counts, frees_viewed}
 use Rattle.cyc_interpret.proofs.world.World.free.Goals as goal
 
 pub overflow_sub-self : goal.overflow_sub-self
@@ -32,4 +32,4 @@ pub returns : goal.returns
 returns c = λ x at.
     let w = c.args.self.now in
     let o = c.index_mut-object.result.now in
-    ap (λ (xs : List Object). record (view_world w) { objects = xs }) (frees w.objects.items c.args.number o x at c.index_mut-object.ensures.value (record { owner = owner.Unique false; cells = o.cells }) refl)
+    ap (λ (xs : List Object). record (view_world w) { objects = xs }) (frees_viewed w.objects.items c.args.number o x at c.index_mut-object.ensures.value (record { owner = owner.Unique false; cells = o.cells }) refl)
