@@ -35,20 +35,44 @@ fn is_steady(span: Span, operator: PrefixOperator, operand: &Expr) -> bool {
     }
 }
 
+/// What is known of a loop before its body is searched.
+#[derive(Clone, Copy)]
+pub(crate) struct LoopHead {
+    idle: Idle,
+    /// True if only assignments to the watched locals can change the condition's value.
+    is_steady: bool,
+    changes: usize,
+    exits: usize,
+}
+
 impl Finder {
-    /// Searches a loop for warnings.
-    #[cycle(statements)]
-    pub(crate) fn look_at_loop(&mut self, span: Span, condition: &Expr, body: &Stmt) {
+    /// Searches the head of a loop for warnings, and watches the locals of its condition.
+    pub(crate) fn begin_loop(&mut self, span: Span, condition: &Expr, body: &Stmt) -> LoopHead {
         let first = self.locals.watched();
-        let is_watched = self.watch(condition);
+        let is_steady = self.watch(condition);
         let end = self.locals.watched();
-        let (changes, exits) = (self.locals.changes_in(first, end), self.exits);
+        let head = LoopHead {
+            idle: Idle { span, first, end },
+            is_steady,
+            changes: self.locals.changes_in(first, end),
+            exits: self.exits,
+        };
         self.look_at_head(span, condition, body);
-        self.look_at_statement(body);
-        let is_changed = self.locals.changes_in(first, end) != changes;
-        let is_idle = is_watched && first < end && !is_changed && self.exits == exits;
+        head
+    }
+
+    /// Notes a loop whose body, which has been searched, neither changes the watched locals nor leaves the loop.
+    pub(crate) fn end_loop(&mut self, head: LoopHead, body: &Stmt) {
+        let LoopHead {
+            idle,
+            is_steady,
+            changes,
+            exits,
+        } = head;
+        let is_changed = self.locals.changes_in(idle.first, idle.end) != changes;
+        let is_idle = is_steady && idle.first < idle.end && !is_changed && self.exits == exits;
         if is_idle && !is_blank(body) {
-            self.locals.add_idle(Idle { span, first, end });
+            self.locals.add_idle(idle);
         }
     }
 

@@ -172,14 +172,22 @@ impl Finder {
                 otherwise,
             } => {
                 self.look_at_condition(*span, condition);
-                self.look_at_branches(condition, then, otherwise)
+                let leaves = self.look_at_statement(then);
+                let Some(otherwise) = otherwise else {
+                    self.look_at_branch(then);
+                    return false;
+                };
+                self.look_at_chain(condition, otherwise);
+                self.look_at_statement(otherwise) && leaves
             }
             Stmt::While {
                 span,
                 condition,
                 body,
             } => {
-                self.look_at_loop(*span, condition, body);
+                let head = self.begin_loop(*span, condition, body);
+                self.look_at_statement(body);
+                self.end_loop(head, body);
                 false
             }
             Stmt::Return { value, .. } => {
@@ -213,27 +221,6 @@ impl Finder {
                 true
             }
             Stmt::Continue { .. } => true,
-        }
-    }
-
-    /// Searches the branches of an `if` with this condition for warnings. Returns true if both always leave their block.
-    #[cycle(statements)]
-    fn look_at_branches(
-        &mut self,
-        condition: &Expr,
-        then: &Stmt,
-        otherwise: &Option<Box<Stmt>>,
-    ) -> bool {
-        let leaves = self.look_at_statement(then);
-        match otherwise {
-            Some(otherwise) => {
-                self.look_at_chain(condition, otherwise);
-                self.look_at_statement(otherwise) && leaves
-            }
-            None => {
-                self.look_at_branch(then);
-                false
-            }
         }
     }
 
