@@ -28,8 +28,7 @@ module _ (pages calls : ℕ) where
       → IfSome (if b then Some given else None) (CarriesBoth (call_bounds.Calls calls) (page_bounds.Pages pages))
   unfolding given
   chosen true fits =
-      let (few_pages, few_calls) = and_parts (nat_le pages MAX_PAGES) (nat_le calls MAX_CALLS) fits in
-      (
+      let (few_pages, few_calls) = and_parts (nat_le pages MAX_PAGES) (nat_le calls MAX_CALLS) fits in (
         (max MIN_PAGES pages, max MIN_CALLS calls),
         refl,
         record {

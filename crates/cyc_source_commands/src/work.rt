@@ -7,9 +7,7 @@ ghost use Rattle.cyc_source_commands.specs.inside.Work.{AnswersCheck, AnswersCom
 
 use cyc_bound::{CallBound, PageBound};
 use cyc_cli::GivenLimits;
-use cyc_compiler::{
-    Bounds, Compilation, Placed, bounds, compile_with_places, compile_with_tokens,
-};
+use cyc_compiler::{Bounds, Compilation, Placed, bounds, compile_with_places, compile_with_tokens};
 use cyc_front::{Phases, run_phases};
 use cyc_words::Fault;
 use std::alloc::{AllocError, Global};
