@@ -11,6 +11,7 @@
    of the contracts in the first lines of a crate's document, of the rows and sections of docs/GUARANTEES.md, of the paragraphs of
    docs/TRUSTED.md, and of sentences. What promises nothing, by a document, has no `ensures`.
 4. Counts are those of the tree (`claimed.COUNTS`), and lists of suites, of examples and of crates with decisions are whole.
+5. In manual pages an entry begins as one, and options are the program's.
 
 --list prints each claim. The last line is `N passed, M failed`, of the claims.
 """
@@ -30,11 +31,11 @@ import facts
 import places
 import trusted
 
-# The parts of the tree whose words count beside those of the crates, and what is in them and is no word of the tree: the lists of this
-# suite, and the texts of its self test.
+# The parts of the tree whose words count beside those of the crates, and what is in them and is no word of the tree: documents and manual
+# pages, the lists of this suite, and the texts of its self test.
 FOLDERS = ("tests", "tools", "examples", "lib", "bench", "editors", "docs")
 LEFT_OUT = ("claims.py", "claimed.py", "claims_tried.py")
-NO_TEXT = (".md", ".png", ".svg", ".elf", ".pyc")
+NO_TEXT = (".md", ".1", ".png", ".svg", ".elf", ".pyc")
 GUARANTEES, TRUSTED = "docs/GUARANTEES.md", "docs/TRUSTED.md"
 # The crate that passes on the product's calls: its document names all that have a contract.
 WHOLE = "cyc_system"
@@ -452,9 +453,25 @@ KINDS = (claims_of_names, claims_of_owners, claims_of_head, claims_of_rows, clai
          claims_of_lists, claims_of_counts)
 
 
+def manuals():
+    """Returns the manual pages."""
+    return sorted(path for path in tree_files() if path.startswith("docs/") and path.endswith(".1"))
+
+
+def claims_of_manual(path, text):
+    """Returns a claim for each entry of a manual page, which has to begin as one, and for each option of the program in its own page."""
+    lines = text.split("\n")
+    for number, line in enumerate(lines, 1):
+        if re.match(r'\.BI \S+ " ', line):
+            yield Claim(number, f"the entry {line}", "no .TP stands before it" if re.search(r"[a-z)]\.$", lines[number - 2]) else None)
+        for name in re.findall(r"(?<![\w-])--([a-z][a-z-]*)", line.replace("\\-", "-")) if path == "docs/cyclone.1" else ():
+            there = name in ("help", "version") or f'"{name}"' in facts.content("crates/cyc_cli/src/commands.rt")
+            yield Claim(number, f"the option --{name}", None if there else f"no command has the option --{name}")
+
+
 def claims_of(path, text):
-    """Returns the claims of a document."""
-    return [claim for kind in KINDS for claim in kind(path, text)]
+    """Returns the claims of a document or of a manual page."""
+    return [claim for kind in ((claims_of_manual,) if path in manuals() else KINDS) for claim in kind(path, text)]
 
 
 def faults_of_lists():
@@ -470,7 +487,7 @@ def main():
     parser.add_argument("documents", nargs="*", metavar="DOCUMENT")
     asked = parser.parse_args()
     passed, failed = 0, 0
-    for path in asked.documents or documents.documents():
+    for path in asked.documents or documents.documents() + manuals():
         for claim in claims_of(path, facts.content(path)):
             passed, failed = passed + (claim.fault is None), failed + (claim.fault is not None)
             if claim.fault or asked.list:

@@ -1,5 +1,6 @@
 """Plants false claims in copies of documents: `claims.py` must see each of them, and find nothing wrong with the documents as they are.
 `self_test.py` runs this."""
+import functools
 import unittest.mock
 
 import suite  # first: it makes the tools importable
@@ -32,6 +33,8 @@ FALSE = (
     ("crates/cyc_flow/README.md", "- Contract: `flow`", "- Contract: none", "cyc_flow has contracts"),
     ("crates/cyc_asm/README.md", "`assemble`; `sources`, of which", "`sources`; `assemble`, of which", "has no `ensures`"),
     ("crates/cyc_lower/README.md", "(`Lengths` of `cyc_lower_proof`)", "(`Lengths` of `cyc_lower`)", "cyc_lower has no Lengths"),
+    ("docs/cyclone.1", ".TP\n.BI \\-\\-places", ".BI \\-\\-places", "no .TP stands before it"),
+    ("docs/cyclone.1", "\n.BR \\-\\-report ,\ncounts", "\n.BR \\-\\-reports ,\ncounts", "no command has the option --reports"),
     ("docs/DECISIONS.md", "| stores | `cyc_rawpages`, ", "| stores | ", "cyc_rawpages has decisions"),
     ("examples/README.md", "| `squares.cyc` |", "| `squared.cyc` |", "there is no row for squares.cyc"),
     ("tests/README.md", "- **`told.py`**", "- `told.py`", "no paragraph or no question for told.py"),
@@ -39,6 +42,7 @@ FALSE = (
 )
 
 
+@functools.cache
 def faults_of(path, text):
     return [claim.fault for claim in claims.claims_of(path, text) if claim.fault]
 
