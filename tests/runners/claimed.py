@@ -15,7 +15,7 @@ OUTSIDE = set("""
 tidy --fail-alloc dac8208d650f15bf
 no_new_privs fdinfo serde_json indexmap buffered
 rotr PT_NOTE cnext
-copy_P die is_point Outer
+copy_P is_point Outer
 """.split())
 
 Count = collections.namedtuple("Count", "document pattern number")
