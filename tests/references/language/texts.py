@@ -297,6 +297,7 @@ class Expressions(Types):
         if self.sees("("):
             inner = self.enclosed("(", self.expression, ")")
             inner.start, inner.is_bracketed = token.place, True
+            inner.brackets = getattr(inner, "brackets", 0) + 1
             return inner
         if self.sees("NULL", "heap_region", "unique_region"):
             return Node({"NULL": "null"}.get(token.text, token.text), self.take().place)

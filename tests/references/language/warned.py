@@ -80,9 +80,14 @@ def chained(node):
     return None if before is None or is_bracketed(before) else before
 
 
+def brackets_of(node):
+    """How many pairs of brackets stand around an expression."""
+    return getattr(node, "brackets", 0)
+
+
 def are_same(one, other):
     """Whether two expressions are written with the same words, and neither call, assign, make nor free anything."""
-    if one.kind != other.kind or one.kind in EFFECTS or is_bracketed(one) != is_bracketed(other) or words_of(one) != words_of(other):
+    if one.kind != other.kind or one.kind in EFFECTS or brackets_of(one) != brackets_of(other) or words_of(one) != words_of(other):
         return False
     return all(are_same(*pair) for pair in zip(parts_of(one), parts_of(other)))
 
