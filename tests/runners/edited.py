@@ -272,7 +272,7 @@ TRIED = (
     )),
     ("a text with a mistake that is laid out", "int main(){\nreturn x;}\n", ((("lay",), 1), (("text",), "int main() {\n  return x;\n}\n"))),
     ("what names mean", STRUCTS, (
-        (("diagnostics",), []),
+        (("diagnostics",), [[9, 9, 9, 10, 2, "`i` hides another local of this name: rename one of them"]]),
         (("hover", 12, 10), "```cyclone\nint first(struct Node<`a> *`a node)\n```\n\na function"),
         (("hover", 12, 29), "```cyclone\nint value\n```\n\na field of `Node`"),
         (("hover", 12, 16),
