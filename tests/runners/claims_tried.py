@@ -18,7 +18,7 @@ FALSE = (
     ("docs/GUARANTEES.md", "(the clause `sound`)", "(the clause `sounding`)", "no contract has a clause sounding"),
     ("docs/GUARANTEES.md", "(`IsFormedProgram`)", "(`IsStretch`)", "no crate of this section has IsStretch"),
     ("docs/GUARANTEES.md", "`specs/inside/Answer.antt`", "`specs/Answer.antt`", "no crate has specs/Answer.antt"),
-    ("docs/TRUSTED.md", "(`RunsAs`)", "(`HasSameTokens`)", "does not mean HasSameTokens"),
+    ("docs/TRUSTED.md", "as n steps (`RunsAs`)", "as n steps (`HasSameTokens`)", "does not mean HasSameTokens"),
     ("docs/TRUSTED.md", "(`IsAcceptedText`)", "(`IsReported`)", "does not mean IsReported"),
     ("docs/ARCHITECTURE.md", "which has eight (`cyc_scope`", "which has six (`cyc_scope`", "the tree has eight"),
     ("README.md", "51 programs with a line each", "50 programs with a line each", "the tree has 51"),
