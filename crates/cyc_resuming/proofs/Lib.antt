@@ -1,0 +1,2 @@
+pub mod Resumings
+pub mod Together

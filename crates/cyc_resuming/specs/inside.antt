@@ -1,0 +1,2 @@
+-- the contracts between the functions of this crate
+pub mod Turn
