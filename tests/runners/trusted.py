@@ -40,11 +40,13 @@ CALLS = (
     ("f", "format", "cyc_format", None),
     ("i", "run_source", "cyc_interpret", None),
     ("i", "Course", "cyc_interpret", None),
+    ("t", "load", "cyc_resuming", None),
+    ("t", "resume", "cyc_resuming", None),
 )
 # The crates whose laws have rows and paragraphs on the page, each with the symbol that stands for them in the tables.
-LAWS = (("a", "cyc_front"), ("b", "cyc_bound"), ("l", "cyc_image"), ("l", "cyc_compiler"), ("s", "cyc_system"))
+LAWS = (("a", "cyc_front"), ("b", "cyc_bound"), ("l", "cyc_image"), ("l", "cyc_compiler"), ("s", "cyc_system"), ("t", "cyc_resuming"))
 # The crates with definitions in `specs/` that public contracts use.
-PUBLIC = ("cyc_front", "cyc_image", "cyc_compiler", "cyc_emulator", "cyc_system", "cyc_machine_model", "cyc_machine", "cyc_store", "cyc_elf", "cyc_isa", "cyc_format", "cyc_bound", "cyc_interpret")
+PUBLIC = ("cyc_front", "cyc_image", "cyc_compiler", "cyc_emulator", "cyc_system", "cyc_machine_model", "cyc_machine", "cyc_store", "cyc_elf", "cyc_isa", "cyc_format", "cyc_bound", "cyc_interpret", "cyc_resuming")
 # Results of the front end that the program uses only for its messages; docs/TRUSTED.md promises
 # nothing about them.
 FOR_MESSAGES = ("run_phases", "Phases", "compile_with_tokens", "Compilation", "compile_with_places", "Placed", "bounds_with_tokens", "Bounded")
