@@ -390,18 +390,18 @@ stops grows old at budget before now after count x x' pauses.NoMemory stands sta
     (stops_by grows old at budget before now after count x x' pauses.NoMemory stands stands' machine machine' g below (λ end is. cc) turned)
 
 -- A device failed while instructions were executed fast.
-pub fails_by : (grows : Bool) (old : Point) (at : State) (budget : ℕ) (before : Devices) (count more : ℕ) (device : Device) (pause : Pause) (stands stands' : Standing) (machine machine' : State) (t t' : Traffic)
+pub device_fails_by : (grows : Bool) (old : Point) (at : State) (budget : ℕ) (before : Devices) (count more : ℕ) (device : Device) (pause : Pause) (stands stands' : Standing) (machine machine' : State) (t t' : Traffic)
     → (g : Going at old.saw_end before (devices_of t) count t.counts stands machine) → count + more < budget → phase_at stands' ≡ Running → pause ≡ pause_of device
     → GoesAhead more (Some device) g.here t stands' machine' t'
     → ResumesAt grows old (record { machine = machine'; stands = stands'; saw_end = t'.counts.ended }) budget before (devices_of t')
     (record { count = count + more; read = t'.counts.read; written = t'.counts.written; pause = pause }) at
 unfolding goes_ahead
-fails_by grows old at budget before count more Reader pause stands stands' machine machine' t t' g below going is a =
+device_fails_by grows old at budget before count more Reader pause stands stands' machine machine' t t' g below going is a =
     let there = goes_ahead at old.saw_end before count more (Some Reader) stands stands' machine machine' t t' g going a in
     subst (λ (p : Pause). ResumesAt grows old (record { machine = machine'; stands = stands'; saw_end = t'.counts.ended }) budget before (devices_of t')
     (record { count = count + more; read = t'.counts.read; written = t'.counts.written; pause = p }) at) (sym is)
     (pauses_at grows old at budget before (devices_of t') (count + more) t'.counts pauses.NoByte stands' machine' there (omega (arith, below)) (there.progress.running, below, a.fails.0, a.fails.1))
-fails_by grows old at budget before count more Writer pause stands stands' machine machine' t t' g below going is a =
+device_fails_by grows old at budget before count more Writer pause stands stands' machine machine' t t' g below going is a =
     let there = goes_ahead at old.saw_end before count more (Some Writer) stands stands' machine machine' t t' g going a in
     subst (λ (p : Pause). ResumesAt grows old (record { machine = machine'; stands = stands'; saw_end = t'.counts.ended }) budget before (devices_of t')
     (record { count = count + more; read = t'.counts.read; written = t'.counts.written; pause = p }) at) (sym is)

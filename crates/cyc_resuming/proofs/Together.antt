@@ -64,10 +64,10 @@ counted_then m (suc n) u v w first (mid, run, none, goes) =
 
 -- ---- calls one after another
 
-part_then : (m n : ℕ) (a b c : State) (read printed read' printed' : List ℕ) (saw saw' : Bool) → IsPart m a read printed saw b → IsPart n b read' printed' saw' c
+row_part_then : (m n : ℕ) (a b c : State) (read printed read' printed' : List ℕ) (saw saw' : Bool) → IsPart m a read printed saw b → IsPart n b read' printed' saw' c
     → (saw ≡ true → (read' ≡ []) × (saw' ≡ true)) → IsPart (m + n) a (read ++ read') (printed ++ printed') saw' c
 unfolding framed
-part_then m n a b c read printed read' printed' saw saw' first second after_end rest ended =
+row_part_then m n a b c read printed read' printed' saw saw' first second after_end rest ended =
     let mid : World = record { machine = b; output = printed; input = read' ++ rest } in
     let none : saw ≡ true → read' ++ rest ≡ [] = λ was. let after = after_end was in ap (λ (bytes : List ℕ). bytes ++ rest) after.0 ∙ ended after.1 in
     let from : Counted n mid (record { machine = c; output = printed ++ printed'; input = rest }) =
@@ -91,7 +91,7 @@ join_rows (piece ∷ pieces) old new (mid, first, others) at stands =
     let q = join_rows pieces mid new others p.now p.stands in record {
       now = q.now;
       stands = q.stands;
-      part = part_then piece.count (all_of pieces).count at p.now q.now piece.read piece.printed (all_of pieces).read (all_of pieces).printed mid.saw_end new.saw_end p.part q.part q.after_end;
+      part = row_part_then piece.count (all_of pieces).count at p.now q.now piece.read piece.printed (all_of pieces).read (all_of pieces).printed mid.saw_end new.saw_end p.part q.part q.after_end;
       after_end = λ was.
           let before = p.after_end was in
           let after = q.after_end before.1 in
@@ -121,10 +121,10 @@ reported start at now budget stop piece saw rest begins part ended few stopped =
   peaks = tt;
 }
 
-whole_of : (grows : Bool) (store : StoreState) (image : ImageContents) (limits : Bounds) (budget : ℕ) (stop : Stop) (piece : Piece) (rest : List ℕ) (machine : State) → has_outside image ≡ false
+whole_row_of : (grows : Bool) (store : StoreState) (image : ImageContents) (limits : Bounds) (budget : ℕ) (stop : Stop) (piece : Piece) (rest : List ℕ) (machine : State) → has_outside image ≡ false
     → IsReported (start_world image limits store) budget (record { remaining = Some (piece.read ++ rest); written = Some [] }) (record { remaining = Some rest; written = Some piece.printed }) (report_of stop piece machine)
     → IsWhole grows store (Ok image) limits budget stop piece rest machine
-whole_of grows store image limits budget stop piece rest machine inside is =
+whole_row_of grows store image limits budget stop piece rest machine inside is =
     let old : Devices = record { remaining = Some (piece.read ++ rest); written = Some [] } in
     let new : Devices = record { remaining = Some rest; written = Some piece.printed } in
     MatchBool-false (has_outside image) (Refuses (Load load.Outside) old new (Ok (report_of stop piece machine)))
@@ -147,7 +147,7 @@ rows_end grows store (Ok image) limits pieces first last end opens row over rest
     let same = over_at last.stands last.machine p.now end over p.stands.0 in
     let gone : end_in p.now.phase ≡ Some end = ap end_in p.stands.1 ∙ ap (λ (how : Standing). end_in (phase_at how)) over in
     subst (λ (machine : State). IsWhole grows store (Ok image) limits budget (stops.End end) (all_of pieces) rest machine) (sym same)
-    (whole_of grows store image limits budget (stops.End end) (all_of pieces) rest p.now opens.0
+    (whole_row_of grows store image limits budget (stops.End end) (all_of pieces) rest p.now opens.0
     (reported (start_world image limits store) (start_state image limits store) p.now budget (stops.End end) (all_of pieces) last.saw_end rest (λ input. refl) p.part ended few gone))
 
 pub rows_spend : RowsSpend
@@ -157,6 +157,6 @@ rows_spend grows store (Ok image) limits pieces first last opens row rest ended 
       p.now,
       p.stands,
       λ running.
-          whole_of grows store image limits (all_of pieces).count stops.Spent (all_of pieces) rest p.now opens.0
+          whole_row_of grows store image limits (all_of pieces).count stops.Spent (all_of pieces) rest p.now opens.0
           (reported (start_world image limits store) (start_state image limits store) p.now (all_of pieces).count stops.Spent (all_of pieces) last.saw_end rest (λ input. refl) p.part ended (omega arith) (ap end_in running, refl)),
     )

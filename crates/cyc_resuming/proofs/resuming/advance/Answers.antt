@@ -2,7 +2,7 @@ use Rattle.std.proofs.Common.{◌∙◌, ap, arith, refl}
 use Rattle.std.specs.Prelude.{◌||◌}
 use Rattle.cyc_machine.specs.Held.{state_of}
 use Rattle.cyc_resuming.specs.Resuming.{is_no_byte, is_no_room}
-use Rattle.cyc_resuming.proofs.Resumings.{fails_by, goes_ahead, goes_turn, starts, stops}
+use Rattle.cyc_resuming.proofs.Resumings.{device_fails_by, goes_ahead, goes_turn, starts, stops}
 use Rattle.cyc_resuming.proofs.resuming.advance.Goals as goal
 
 pub loop-count-init : goal.loop-count-init
@@ -19,7 +19,7 @@ pub returns-in-Some-clause-advances : goal.returns-in-Some-clause-advances
 returns-in-Some-clause-advances g c = λ goes at stood.
     let before = c.loop-count.invariant.going goes at stood in
     let ahead = c.run_ahead-ahead.ensures.ahead before.here before.stood in
-    fails_by g.S.Store.GROWS _ at c.args.budget _ c.loop-count.count c.run_ahead-ahead.result.count c.in-Some.device c.pause_of.result _ _ _ _ _ _ before
+    device_fails_by g.S.Store.GROWS _ at c.args.budget _ c.loop-count.count c.run_ahead-ahead.result.count c.in-Some.device c.pause_of.result _ _ _ _ _ _ before
     (omega (arith, c.loop-count-test.true, c.run_ahead-ahead.ensures.most)) (c.run_ahead-ahead.ensures.goes before.going) c.pause_of.ensures (rw c.in-Some.is at ahead)
 
 pub loop-count-preserved : goal.loop-count-preserved
